@@ -3,6 +3,10 @@ ghost use mathlib.Core.Path.{_≡_};
 ghost use mathlib.Core.Bool.{true};
 ghost use Rattle.labels.specs.Kind.{Kind, Lattice, Keeps};
 ghost use Rattle.labels.specs.Rung.{rungs, Lawful, made};
+
+#[cfg(test)]
+mod tests;
+
 use std::fmt;
 
 // A kind of label: a lattice whose labels say who may learn of a value.

@@ -1,5 +1,18 @@
 // Requests with the answers and standings that docs/MODEL.md gives them, worked out by hand.
-use super::play::*;
+use self::Expected::Done;
+use self::Expected::Refused;
+use self::Expected::Sealed;
+use self::Expected::Value;
+use super::play::Answer;
+use super::play::Ask;
+use super::play::Ask::Lower;
+use super::play::Ask::Open;
+use super::play::Ask::Raise;
+use super::play::Ask::Seal;
+use super::play::Ask::Unseal;
+use super::play::Fault;
+use super::play::Request;
+use super::play::serve;
 use labels::Rung;
 use labels::RungLabel;
 use sessions::Refusal;
@@ -51,161 +64,79 @@ fn plays(sessions: &mut [Session<Rung>], cases: &[Case]) -> Result<(), Fail> {
     Ok(())
 }
 
+const OPENING_RAISING_LOWERING: [Case; 26] = [
+    (Request(2, Open(0, 7)), Refused(1, None), None),
+    (Request(0, Open(3, 2)), Refused(5, None), None),
+    (Request(0, Open(0, 8)), Refused(15, None), None),
+    (Request(2, Raise(0)), Refused(1, None), None),
+    (Request(0, Raise(0)), Refused(2, None), None),
+    (Request(2, Lower(7)), Refused(1, None), None),
+    (Request(0, Lower(7)), Refused(2, None), None),
+    (Request(0, Open(7, 7)), Done, Some((7, 7))),
+    (Request(0, Open(0, 0)), Done, Some((0, 0))),
+    (Request(0, Raise(1)), Refused(8, Some(0)), Some((0, 0))),
+    (Request(0, Open(2, 6)), Done, Some((2, 6))),
+    (Request(0, Open(6, 2)), Refused(5, None), Some((2, 6))),
+    (Request(0, Raise(0)), Done, Some((2, 6))),
+    (Request(0, Raise(4)), Done, Some((4, 6))),
+    (Request(0, Raise(3)), Done, Some((4, 6))),
+    (Request(0, Raise(7)), Refused(8, Some(4)), Some((4, 6))),
+    (Request(0, Lower(7)), Refused(5, None), Some((4, 6))),
+    (Request(0, Lower(3)), Refused(5, None), Some((4, 6))),
+    (Request(0, Lower(6)), Done, Some((4, 6))),
+    (Request(0, Lower(5)), Done, Some((4, 5))),
+    (Request(0, Raise(6)), Refused(8, Some(4)), Some((4, 5))),
+    (Request(0, Raise(5)), Done, Some((5, 5))),
+    (Request(0, Lower(5)), Done, Some((5, 5))),
+    (Request(1, Raise(0)), Refused(2, None), None),
+    (Request(1, Open(0, 7)), Done, Some((0, 7))),
+    (Request(0, Raise(0)), Done, Some((5, 5))),
+];
+
+const SEALING_UNSEALING: [Case; 17] = [
+    (Request(2, Seal(9, 0)), Refused(1, None), None),
+    (Request(0, Seal(9, 0)), Refused(2, None), None),
+    (Request(2, Unseal(0, 9)), Refused(1, None), None),
+    (Request(0, Unseal(0, 9)), Refused(2, None), None),
+    (Request(0, Open(2, 5)), Done, Some((2, 5))),
+    (Request(0, Seal(9, 1)), Refused(5, None), Some((2, 5))),
+    (Request(0, Seal(9, 6)), Refused(5, None), Some((2, 5))),
+    (
+        Request(0, Seal(9, 18446744073709551615)),
+        Refused(15, None),
+        Some((2, 5)),
+    ),
+    (
+        Request(0, Seal(-2147483648, 2)),
+        Sealed(2, -2147483648),
+        Some((2, 5)),
+    ),
+    (
+        Request(0, Seal(2147483647, 5)),
+        Sealed(5, 2147483647),
+        Some((2, 5)),
+    ),
+    (Request(0, Unseal(6, 9)), Refused(8, Some(2)), Some((2, 5))),
+    (Request(0, Unseal(1, -9)), Value(-9), Some((2, 5))),
+    (Request(0, Unseal(5, 0)), Value(0), Some((5, 5))),
+    (Request(0, Seal(9, 4)), Refused(5, None), Some((5, 5))),
+    (Request(1, Open(0, 7)), Done, Some((0, 7))),
+    (Request(1, Unseal(7, 9)), Value(9), Some((7, 7))),
+    (Request(1, Seal(9, 7)), Sealed(7, 9), Some((7, 7))),
+];
+
 #[test]
 fn opening_raising_and_lowering() -> Result<(), Fail> {
-    let mut sessions = [Session::closed(), Session::closed()];
     plays(
-        &mut sessions,
-        &[
-            (
-                Request(2, Ask::Open(0, 7)),
-                Expected::Refused(1, None),
-                None,
-            ),
-            (
-                Request(0, Ask::Open(3, 2)),
-                Expected::Refused(5, None),
-                None,
-            ),
-            (
-                Request(0, Ask::Open(0, 8)),
-                Expected::Refused(15, None),
-                None,
-            ),
-            (Request(2, Ask::Raise(0)), Expected::Refused(1, None), None),
-            (Request(0, Ask::Raise(0)), Expected::Refused(2, None), None),
-            (Request(2, Ask::Lower(7)), Expected::Refused(1, None), None),
-            (Request(0, Ask::Lower(7)), Expected::Refused(2, None), None),
-            (Request(0, Ask::Open(7, 7)), Expected::Done, Some((7, 7))),
-            (Request(0, Ask::Open(0, 0)), Expected::Done, Some((0, 0))),
-            (
-                Request(0, Ask::Raise(1)),
-                Expected::Refused(8, Some(0)),
-                Some((0, 0)),
-            ),
-            (Request(0, Ask::Open(2, 6)), Expected::Done, Some((2, 6))),
-            (
-                Request(0, Ask::Open(6, 2)),
-                Expected::Refused(5, None),
-                Some((2, 6)),
-            ),
-            (Request(0, Ask::Raise(0)), Expected::Done, Some((2, 6))),
-            (Request(0, Ask::Raise(4)), Expected::Done, Some((4, 6))),
-            (Request(0, Ask::Raise(3)), Expected::Done, Some((4, 6))),
-            (
-                Request(0, Ask::Raise(7)),
-                Expected::Refused(8, Some(4)),
-                Some((4, 6)),
-            ),
-            (
-                Request(0, Ask::Lower(7)),
-                Expected::Refused(5, None),
-                Some((4, 6)),
-            ),
-            (
-                Request(0, Ask::Lower(3)),
-                Expected::Refused(5, None),
-                Some((4, 6)),
-            ),
-            (Request(0, Ask::Lower(6)), Expected::Done, Some((4, 6))),
-            (Request(0, Ask::Lower(5)), Expected::Done, Some((4, 5))),
-            (
-                Request(0, Ask::Raise(6)),
-                Expected::Refused(8, Some(4)),
-                Some((4, 5)),
-            ),
-            (Request(0, Ask::Raise(5)), Expected::Done, Some((5, 5))),
-            (Request(0, Ask::Lower(5)), Expected::Done, Some((5, 5))),
-            (Request(1, Ask::Raise(0)), Expected::Refused(2, None), None),
-            (Request(1, Ask::Open(0, 7)), Expected::Done, Some((0, 7))),
-            (Request(0, Ask::Raise(0)), Expected::Done, Some((5, 5))),
-        ],
+        &mut [Session::closed(), Session::closed()],
+        &OPENING_RAISING_LOWERING,
     )
 }
 
 #[test]
 fn sealing_and_unsealing() -> Result<(), Fail> {
-    let mut sessions = [Session::closed(), Session::closed()];
     plays(
-        &mut sessions,
-        &[
-            (
-                Request(2, Ask::Seal(9, 0)),
-                Expected::Refused(1, None),
-                None,
-            ),
-            (
-                Request(0, Ask::Seal(9, 0)),
-                Expected::Refused(2, None),
-                None,
-            ),
-            (
-                Request(2, Ask::Unseal(0, 9)),
-                Expected::Refused(1, None),
-                None,
-            ),
-            (
-                Request(0, Ask::Unseal(0, 9)),
-                Expected::Refused(2, None),
-                None,
-            ),
-            (Request(0, Ask::Open(2, 5)), Expected::Done, Some((2, 5))),
-            (
-                Request(0, Ask::Seal(9, 1)),
-                Expected::Refused(5, None),
-                Some((2, 5)),
-            ),
-            (
-                Request(0, Ask::Seal(9, 6)),
-                Expected::Refused(5, None),
-                Some((2, 5)),
-            ),
-            (
-                Request(0, Ask::Seal(9, 18446744073709551615)),
-                Expected::Refused(15, None),
-                Some((2, 5)),
-            ),
-            (
-                Request(0, Ask::Seal(-2147483648, 2)),
-                Expected::Sealed(2, -2147483648),
-                Some((2, 5)),
-            ),
-            (
-                Request(0, Ask::Seal(2147483647, 5)),
-                Expected::Sealed(5, 2147483647),
-                Some((2, 5)),
-            ),
-            (
-                Request(0, Ask::Unseal(6, 9)),
-                Expected::Refused(8, Some(2)),
-                Some((2, 5)),
-            ),
-            (
-                Request(0, Ask::Unseal(1, -9)),
-                Expected::Value(-9),
-                Some((2, 5)),
-            ),
-            (
-                Request(0, Ask::Unseal(5, 0)),
-                Expected::Value(0),
-                Some((5, 5)),
-            ),
-            (
-                Request(0, Ask::Seal(9, 4)),
-                Expected::Refused(5, None),
-                Some((5, 5)),
-            ),
-            (Request(1, Ask::Open(0, 7)), Expected::Done, Some((0, 7))),
-            (
-                Request(1, Ask::Unseal(7, 9)),
-                Expected::Value(9),
-                Some((7, 7)),
-            ),
-            (
-                Request(1, Ask::Seal(9, 7)),
-                Expected::Sealed(7, 9),
-                Some((7, 7)),
-            ),
-        ],
+        &mut [Session::closed(), Session::closed()],
+        &SEALING_UNSEALING,
     )
 }
