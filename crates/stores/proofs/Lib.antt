@@ -1,0 +1,4 @@
+pub mod Walks
+pub mod Puts
+pub mod Limits
+pub mod Sweeps
