@@ -59,8 +59,18 @@ impl<L: Label> Standing<L> {
 pub enum Refusal<L> {
     NoSession,
     SessionClosed,
+    NoTable(L),
+    FirstAboveTable(L),
     OutOfRange,
+    LabelAboveTarget(L),
+    FirstAboveField(L),
     AboveClearance(L),
+    QueryAboveClearance(L),
+    QueryAboveTarget(L),
+    SecondAboveField(L),
+    TableFull(L),
+    KeysSpent(L),
+    TooFewPlaces(L),
 }
 
 impl<L: Label> Refusal<L> {
@@ -70,22 +80,47 @@ impl<L: Label> Refusal<L> {
         match self {
             Refusal::NoSession => 1,
             Refusal::SessionClosed => 2,
+            Refusal::NoTable(_) => 3,
+            Refusal::FirstAboveTable(_) => 4,
             Refusal::OutOfRange => 5,
+            Refusal::LabelAboveTarget(_) => 6,
+            Refusal::FirstAboveField(_) => 7,
             Refusal::AboveClearance(_) => 8,
+            Refusal::QueryAboveClearance(_) => 9,
+            Refusal::QueryAboveTarget(_) => 10,
+            Refusal::SecondAboveField(_) => 11,
+            Refusal::TableFull(_) => 12,
+            Refusal::KeysSpent(_) => 13,
+            Refusal::TooFewPlaces(_) => 14,
+        }
+    }
+
+    fn cause(self) -> &'static str {
+        match self {
+            Refusal::NoSession => "no session of that number",
+            Refusal::SessionClosed => "the session is closed",
+            Refusal::NoTable(_) => "no table of that number",
+            Refusal::FirstAboveTable(_) =>
+                "the label of the first field does not flow to the label of the table",
+            Refusal::OutOfRange => "out of the range from label to clearance",
+            Refusal::LabelAboveTarget(_) => "the label does not flow to what would be written",
+            Refusal::FirstAboveField(_) => "the first value is sealed above its field",
+            Refusal::AboveClearance(_) => "the label would no longer flow to the clearance",
+            Refusal::QueryAboveClearance(_) =>
+                "the label joined with what the query looks at would no longer flow to the clearance",
+            Refusal::QueryAboveTarget(_) =>
+                "what the query looks at does not flow to what would be written",
+            Refusal::SecondAboveField(_) => "the second value is sealed above its field",
+            Refusal::TableFull(_) => "the table is at its limit",
+            Refusal::KeysSpent(_) => "the keys of the table are used up",
+            Refusal::TooFewPlaces(_) => "the matching rows outnumber the places",
         }
     }
 }
 
 pub impl<L: Label> fmt::Display for Refusal<L> as RefusalDisplay {
     fn fmt<W: fmt::Write>(&self, f: &mut fmt::Formatter<W>) -> fmt::Result {
-        match self {
-            Refusal::NoSession => f.write_str("no session of that number"),
-            Refusal::SessionClosed => f.write_str("the session is closed"),
-            Refusal::OutOfRange => f.write_str("out of the range from label to clearance"),
-            Refusal::AboveClearance(_) => f.write_str(
-                "the label would no longer flow to the clearance",
-            ),
-        }
+        f.write_str(self.cause())
     }
 }
 

@@ -1,4 +1,5 @@
 pub mod Walks
+pub mod Few
 pub mod Puts
 pub mod Limits
 pub mod Sweeps

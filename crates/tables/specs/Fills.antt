@@ -1,0 +1,16 @@
+-- What filling makes of a row. Assumes nothing.
+use mathlib.Core.Bool.{_&&_, cond}
+use Prim.Native.Nat.{_+_}
+use lib.Dec.{ltb}
+use lib.ListN.{length, set}
+use Rattle.labels.specs.Kind.{Kind}
+use Rattle.stores.specs.declared.rows.Row.{Row}
+use Rattle.tables.specs.declared.places.Filling.{Filling}
+use Rattle.tables.specs.Queries.{matches, place}
+
+-- A matching row goes into the next place, if there is one.
+abbrev pub filled-by : {L : Type 0} → Kind L → Filling L → Row → Filling L
+filled-by k v r =
+    cond (matches (v .predicate) r && ltb (v .next) (length (v .places .now)))
+    (record { places = record { ptr = v .places .ptr; name = v .places .name; now = set (v .places .now) (v .next) (place k (v .«record») r) }; next = v .next + 1; «record» = v .«record»; predicate = v .predicate })
+    v

@@ -1,0 +1,5 @@
+pub mod Records
+pub mod Queries
+pub mod Steps
+pub mod Scans
+pub mod Fills

@@ -1,0 +1,105 @@
+// The requests on tables.
+ghost use mathlib.Core.Path.{_≡_};
+ghost use lib.ListN.{length};
+ghost use Rattle.stores.specs.Changes.{changed};
+ghost use Rattle.tables.specs.Steps.{wrote, inserting-at, inserting, deleting-at, deleting, selected, filled-with, selecting};
+use crate::queries::Place;
+use crate::queries::Predicate;
+use crate::records::Entry;
+use crate::records::TableRecord;
+use crate::records::enter;
+use crate::scans::count_matching;
+use crate::scans::query_label;
+use crate::scans::remove_matching;
+use labels::Label;
+use sessions::Refusal;
+use sessions::Sealed;
+use sessions::Session;
+use stores::AddRefusal;
+use stores::Store;
+
+// The end of an insertion, once the label is raised.
+fn insert_at<L: Label, S: Store>(
+    label: L,
+    record: TableRecord<L>,
+    store: &mut S,
+    table: usize,
+    first: Sealed<L>,
+    second: Sealed<L>,
+) -> Result<u32, Refusal<L>>
+    ensures { λ r. ⌜ changed r (S·Store .tables (now (store .exit))) ≡ inserting-at (L·Label .kind) label «record» (S·Store .tables (now (store .entry))) table first second ⌝ }
+{
+    if !second
+        .label()
+        .flows_to(record.second.label_of(first.host_value())) {
+        return Err(Refusal::SecondAboveField(label));
+    }
+    match store.add(table, first.host_value(), second.host_value()) {
+        Ok(key) => Ok(key),
+        Err(AddRefusal::NoTable) => Err(Refusal::NoTable(label)),
+        Err(AddRefusal::TableFull) => Err(Refusal::TableFull(label)),
+        Err(AddRefusal::KeysSpent) => Err(Refusal::KeysSpent(label)),
+    }
+}
+
+fn insert_on<L: Label, S: Store>(
+    session: &mut Session<L>,
+    records: &[TableRecord<L>],
+    store: &mut S,
+    table: usize,
+    first: Sealed<L>,
+    second: Sealed<L>,
+) -> Result<u32, Refusal<L>>
+    ensures { λ r. ⌜ wrote r (now (session .exit)) (S·Store .tables (now (store .exit))) ≡ inserting (L·Label .kind) (now (records .entry)) (S·Store .tables (now (store .entry))) table first second (now (session .entry)) ⌝ }
+{
+    let Entry { label, record } = enter(session, records, store, table)?;
+    if !label.flows_to(record.table) {
+        return Err(Refusal::LabelAboveTarget(label));
+    }
+    if !first.label().flows_to(record.first) {
+        return Err(Refusal::FirstAboveField(label));
+    }
+    session.raise(record.table)?;
+    insert_at(
+        label.join(record.table),
+        record,
+        store,
+        table,
+        first,
+        second,
+    )
+}
+
+// The end of a deletion, once the label is raised.
+fn delete_at<L: Label, S: Store>(
+    label: L,
+    record: TableRecord<L>,
+    store: &mut S,
+    table: usize,
+    predicate: Predicate,
+) -> Result<usize, Refusal<L>>
+    ensures { λ r. ⌜ changed r (S·Store .tables (now (store .exit))) ≡ deleting-at (L·Label .kind) label «record» (S·Store .tables (now (store .entry))) table predicate ⌝ }
+{
+    let query = query_label(store, table, record.second, predicate.second);
+    if !query.flows_to(record.table) {
+        return Err(Refusal::QueryAboveTarget(label));
+    }
+    Ok(remove_matching(store, table, predicate))
+}
+
+fn delete_on<L: Label, S: Store>(
+    session: &mut Session<L>,
+    records: &[TableRecord<L>],
+    store: &mut S,
+    table: usize,
+    predicate: Predicate,
+) -> Result<usize, Refusal<L>>
+    ensures { λ r. ⌜ wrote r (now (session .exit)) (S·Store .tables (now (store .exit))) ≡ deleting (L·Label .kind) (now (records .entry)) (S·Store .tables (now (store .entry))) table predicate (now (session .entry)) ⌝ }
+{
+    let Entry { label, record } = enter(session, records, store, table)?;
+    if !label.flows_to(record.table) {
+        return Err(Refusal::LabelAboveTarget(label));
+    }
+    session.raise(record.table)?;
+    delete_at(label.join(record.table), record, store, table, predicate)
+}
