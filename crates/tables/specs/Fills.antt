@@ -12,5 +12,5 @@ use Rattle.tables.specs.Queries.{matches, place}
 abbrev pub filled-by : {L : Type 0} → Kind L → Filling L → Row → Filling L
 filled-by k v r =
     cond (matches (v .predicate) r && ltb (v .next) (length (v .places .now)))
-    (record { places = record { ptr = v .places .ptr; name = v .places .name; now = set (v .places .now) (v .next) (place k (v .«record») r) }; next = v .next + 1; «record» = v .«record»; predicate = v .predicate })
+    (record { places = record { ptr = v .places .ptr; name = v .places .name; now = set (v .places .now) (v .next) (place k (v .«record» .now) r) }; next = v .next + 1; «record» = v .«record»; predicate = v .predicate })
     v

@@ -18,10 +18,15 @@ use Rattle.stores.specs.Tables.{Table}
 use Rattle.tables.specs.declared.records.SecondRule.{SecondRule}
 use Rattle.tables.specs.declared.records.SecondRule.the-variants.{Fixed, Own, Meet, Join}
 use Rattle.tables.specs.declared.records.TableRecord.{TableRecord}
+use Rattle.tables.specs.declared.records.Entry.{Entry}
 
 -- The record of a table that the store has.
 abbrev pub record-of : {L : Type 0} → List (TableRecord L) → List Table → ℕ → Option (TableRecord L)
 record-of rs ts n = cond (ltb n (length ts)) (nth rs n) None
+
+-- A label, and the record of a table.
+abbrev pub entry : {L : Type 0} → L → TableRecord L → Entry L
+entry c r = record { label = c; «record» = r }
 
 -- What is asked of a table by its record; refusal 3 where there is none.
 abbrev pub if-table : {L X : Type 0} → Option (TableRecord L) → L → (Refusal L → X) → (TableRecord L → X) → X

@@ -2,6 +2,7 @@
 ghost use mathlib.Core.Path.{_≡_};
 ghost use mathlib.Core.List.{map};
 ghost use denote.Ref.{name};
+ghost use Rattle.std.specs.shelf.Lists.{folded};
 ghost use Rattle.stores.specs.Tables.{rows-in};
 ghost use Rattle.tables.specs.Queries.{matching, place as row-place};
 ghost use Rattle.tables.specs.Steps.{filled};
@@ -27,20 +28,41 @@ fn place<L: Label>(record: TableRecord<L>, row: Row) -> Place<L>
     }
 }
 
-impl<'a, L: Label> Visit for Filling<'a, L> as FillingVisit {
+impl<'a, 'b, L: Label> Visit for Filling<'a, 'b, L> as FillingVisit {
     ghost step = { filled-by (L·Label .kind) };
 
     fn visit(&mut self, row: Row) {
         let next = self.next;
         if self.predicate.matches(row) && next < self.places.len() {
-            self.places[next] = place(self.record, row);
+            self.places[next] = place(*self.record, row);
             self.next = next + 1;
         }
     }
 }
 
-fn walk<L: Label, S: Store>(store: &S, table: usize, filling: &mut Filling<L>)
-    ensures { λ _. ⌜ now (filling .exit) ≡ now (filling .exit) ⌝ }
+// The lender of the places knows them again after the walk.
+fn pour<L: Label, S: Store>(store: &S, table: usize, filling: &mut Filling<L>)
+    ensures after { λ _. ⌜ now (filling .exit) ≡ folded (filled-by (L·Label .kind)) (now (filling .entry)) (rows-in (S·Store .tables (now (store .entry))) table) ⌝ }
+    ensures same { λ _. ⌜ name (now (filling .exit) .places) ≡ name (now (filling .entry) .places) ⌝ }
 {
     store.walk(table, filling);
+}
+
+// The matching rows fill the first places, as far as these reach.
+pub fn fill<L: Label, S: Store>(
+    store: &S,
+    table: usize,
+    record: TableRecord<L>,
+    predicate: Predicate,
+    places: &mut [Place<L>],
+)
+    ensures { λ _. ⌜ now (places .exit) ≡ filled (map (row-place (L·Label .kind) «record») (matching predicate (rows-in (S·Store .tables (now (store .entry))) table))) (now (places .entry)) ⌝ }
+{
+    let mut filling = Filling {
+        places,
+        next: 0,
+        record: &record,
+        predicate,
+    };
+    pour(store, table, &mut filling);
 }

@@ -11,3 +11,6 @@ pub use queries::Predicate;
 pub use queries::Range;
 pub use records::SecondRule;
 pub use records::TableRecord;
+pub use requests::delete;
+pub use requests::insert;
+pub use requests::select;

@@ -5,9 +5,9 @@ use crate::records::TableRecord;
 
 // The matching rows go into the places from the next one on.
 #[derive(Drop)]
-pub struct Filling<'a, L> {
+pub struct Filling<'a, 'b, L> {
     pub places: &'a mut [Place<L>],
     pub next: usize,
-    pub record: TableRecord<L>,
+    pub record: &'b TableRecord<L>,
     pub predicate: Predicate,
 }

@@ -1,7 +1,7 @@
 // Table records, and the tests that every request on a table makes.
 ghost use mathlib.Core.Path.{_≡_};
 ghost use Rattle.std.specs.declared.result.Result.the-variants.{Ok, Err};
-ghost use Rattle.tables.specs.Records.{second-label, record-of, on-table};
+ghost use Rattle.tables.specs.Records.{entry, second-label, record-of, on-table};
 use labels::Label;
 use sessions::Refusal;
 use sessions::Session;
@@ -25,7 +25,7 @@ pub struct TableRecord<L> {
     pub second: SecondRule<L>,
 }
 
-// A session's label, and the record of the table that it asks something of.
+// A session's label, and the record of the table that it asks for.
 #[derive(Clone, Copy)]
 pub struct Entry<L> {
     pub label: L,
@@ -68,7 +68,7 @@ pub fn enter<L: Label, S: Store>(
     store: &S,
     table: usize,
 ) -> Result<Entry<L>, Refusal<L>>
-    ensures { λ r. ⌜ r ≡ on-table (L·Label .kind) (now (session .entry)) (now (records .entry)) (S·Store .tables (now (store .entry))) table Err (λ c d t. Ok (record { label = c; «record» = t })) ⌝ }
+    ensures { λ r. ⌜ r ≡ on-table (L·Label .kind) (now (session .entry)) (now (records .entry)) (S·Store .tables (now (store .entry))) table Err (λ c d t. Ok (entry c t)) ⌝ }
 {
     let Some(standing) = session.standing() else {
         return Err(Refusal::SessionClosed);

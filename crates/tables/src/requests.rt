@@ -1,8 +1,10 @@
 // The requests on tables.
 ghost use mathlib.Core.Path.{_≡_};
 ghost use lib.ListN.{length};
+ghost use Rattle.sessions.specs.Steps.{outcome};
 ghost use Rattle.stores.specs.Changes.{changed};
-ghost use Rattle.tables.specs.Steps.{wrote, inserting-at, inserting, deleting-at, deleting, selected, filled-with, selecting};
+ghost use Rattle.tables.specs.Steps.{wrote, inserting-at, inserting, deleting-at, deleting, looking, selected, filled-with, selecting, read, reading-on, written, writing-on};
+use crate::fills::fill;
 use crate::queries::Place;
 use crate::queries::Predicate;
 use crate::records::Entry;
@@ -102,4 +104,106 @@ fn delete_on<L: Label, S: Store>(
     }
     session.raise(record.table)?;
     delete_at(label.join(record.table), record, store, table, predicate)
+}
+
+// The label is raised by the table's and then by the query's.
+fn look_on<L: Label, S: Store>(
+    session: &mut Session<L>,
+    records: &[TableRecord<L>],
+    store: &S,
+    table: usize,
+    predicate: Predicate,
+) -> Result<Entry<L>, Refusal<L>>
+    ensures { λ r. ⌜ outcome r (now (session .exit)) ≡ looking (L·Label .kind) (now (records .entry)) (S·Store .tables (now (store .entry))) table predicate (now (session .entry)) ⌝ }
+{
+    let Entry { label, record } = enter(session, records, store, table)?;
+    session.raise(record.table)?;
+    let label = label.join(record.table);
+    let query = query_label(store, table, record.second, predicate.second);
+    if let Err(_) = session.raise(query) {
+        return Err(Refusal::QueryAboveClearance(label));
+    }
+    Ok(Entry {
+        label: label.join(query),
+        record,
+    })
+}
+
+fn select_on<L: Label, S: Store>(
+    session: &mut Session<L>,
+    records: &[TableRecord<L>],
+    store: &S,
+    table: usize,
+    predicate: Predicate,
+    places: &mut [Place<L>],
+) -> Result<usize, Refusal<L>>
+    ensures { λ r. ⌜ selected r (now (session .exit)) (now (places .exit)) ≡ filled-with (now (places .entry)) (selecting (L·Label .kind) (now (records .entry)) (S·Store .tables (now (store .entry))) table predicate (length (now (places .entry))) (now (session .entry))) ⌝ }
+{
+    let Entry { label, record } = look_on(session, records, store, table, predicate)?;
+    let count = count_matching(store, table, predicate);
+    if count > places.len() {
+        return Err(Refusal::TooFewPlaces(label));
+    }
+    fill(store, table, record, predicate, places);
+    Ok(count)
+}
+
+// The matching rows of a table, in store order, fill the first places; their number is answered.
+pub fn select<L: Label, S: Store>(
+    sessions: &mut [Session<L>],
+    records: &[TableRecord<L>],
+    store: &S,
+    session: usize,
+    table: usize,
+    predicate: Predicate,
+    places: &mut [Place<L>],
+) -> Result<usize, Refusal<L>>
+    ensures { λ r. ⌜ read r (now (sessions .exit)) (now (places .exit)) ≡ reading-on (now (sessions .entry)) (now (places .entry)) session (selecting (L·Label .kind) (now (records .entry)) (S·Store .tables (now (store .entry))) table predicate (length (now (places .entry)))) ⌝ }
+{
+    if session >= sessions.len() {
+        return Err(Refusal::NoSession);
+    }
+    select_on(
+        &mut sessions[session],
+        records,
+        store,
+        table,
+        predicate,
+        places,
+    )
+}
+
+// A row of two sealed values is added to a table; its key is answered.
+pub fn insert<L: Label, S: Store>(
+    sessions: &mut [Session<L>],
+    records: &[TableRecord<L>],
+    store: &mut S,
+    session: usize,
+    table: usize,
+    first: Sealed<L>,
+    second: Sealed<L>,
+) -> Result<u32, Refusal<L>>
+    ensures { λ r. ⌜ written r (now (sessions .exit)) (S·Store .tables (now (store .exit))) ≡ writing-on (now (sessions .entry)) (S·Store .tables (now (store .entry))) session (inserting (L·Label .kind) (now (records .entry)) (S·Store .tables (now (store .entry))) table first second) ⌝ }
+{
+    if session >= sessions.len() {
+        return Err(Refusal::NoSession);
+    }
+    insert_on(&mut sessions[session], records, store, table, first, second)
+}
+
+// Every matching row of a table is removed; their number is answered.
+pub fn delete<L: Label, S: Store>(
+    sessions: &mut [Session<L>],
+    records: &[TableRecord<L>],
+    store: &mut S,
+    session: usize,
+    table: usize,
+    predicate: Predicate,
+) -> Result<usize, Refusal<L>>
+    ensures { λ r. ⌜ written r (now (sessions .exit)) (S·Store .tables (now (store .exit))) ≡ writing-on (now (sessions .entry)) (S·Store .tables (now (store .entry))) session (deleting (L·Label .kind) (now (records .entry)) (S·Store .tables (now (store .entry))) table predicate) ⌝ }
+{
+    if session >= sessions.len() {
+        return Err(Refusal::NoSession);
+    }
+    delete_on(&mut sessions[session], records, store, table, predicate)
 }
