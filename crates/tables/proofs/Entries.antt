@@ -47,31 +47,6 @@ module _ {L : Type 0} (k : Kind L) where
   pub entered : (s : Session L) (rs : List (TableRecord L)) (ts : List Table) (n : ℕ) (e : Entry L) → Ok e ≡ on-table k s rs ts n Err enters → Entered s (record-of rs ts n) e
   entered s rs ts n e h = entered-at s (s .standing) (record-of rs ts n) (record-of rs ts n) e refl refl h
 
-  goes-on-at : {X : Type 0} (s : Session L) (t : Option (TableRecord L)) (e : Entry L) (stop : Refusal L → X) (ask : L → L → TableRecord L → X) → (h : Entered s t e) →
-      if-open (s .standing) stop (λ c d. if-table t c stop (λ r. tests ((k .flows (r .first) (r .table), FirstAboveTable c) ∷ []) stop (ask c d r))) ≡ ask (e .label) (h .clearance) (e .«record»)
-  goes-on-at s t e stop ask h = rw (h .standing, h .table, h .ordered)
-
-  -- the request goes on
-  pub goes-on : {X : Type 0} (s : Session L) (rs : List (TableRecord L)) (ts : List Table) (n : ℕ) (e : Entry L) (stop : Refusal L → X) (ask : L → L → TableRecord L → X) → (h : Entered s (record-of rs ts n) e) →
-      on-table k s rs ts n stop ask ≡ ask (e .label) (h .clearance) (e .«record»)
-  goes-on s rs ts n e stop ask h = goes-on-at s (record-of rs ts n) e stop ask h
-
-  stopped-in : {X : Type 0} (b : Bool) (e other : Refusal L) (v : Entry L) (stop : Refusal L → X) (asked : X) → Err e ≡ cond b (Ok v) (Err other) → cond b asked (stop other) ≡ stop e
-  stopped-in true e other v stop asked h = let z : _≡_ {A = ℕ} 0 1 = cc in absurd (omega arith)
-  stopped-in false e other v stop asked h = let q : e ≡ other = cc in rw q
-
-  stopped-at : {X : Type 0} (o : Option (Standing L)) (t : Option (TableRecord L)) (e : Refusal L) (stop : Refusal L → X) (ask : L → L → TableRecord L → X) →
-      Err e ≡ if-open o Err (λ c d. if-table t c Err (λ r. tests ((k .flows (r .first) (r .table), FirstAboveTable c) ∷ []) Err (enters c d r))) →
-      if-open o stop (λ c d. if-table t c stop (λ r. tests ((k .flows (r .first) (r .table), FirstAboveTable c) ∷ []) stop (ask c d r))) ≡ stop e
-  stopped-at None t e stop ask h = let q : e ≡ SessionClosed = cc in rw q
-  stopped-at (Some at) None e stop ask h = let q : e ≡ NoTable (at .label) = cc in rw q
-  stopped-at (Some at) (Some r) e stop ask h = stopped-in (k .flows (r .first) (r .table)) e _ _ stop _ h
-
-  -- the request is turned down before anything is looked at
-  pub stopped : {X : Type 0} (s : Session L) (rs : List (TableRecord L)) (ts : List Table) (n : ℕ) (e : Refusal L) (stop : Refusal L → X) (ask : L → L → TableRecord L → X) →
-      Err e ≡ on-table k s rs ts n Err enters → on-table k s rs ts n stop ask ≡ stop e
-  stopped s rs ts n e stop ask h = stopped-at (s .standing) (record-of rs ts n) e stop ask h
-
   -- a raise that was not turned down
   pub record Raised (c d a : L) (s : Session L) : Type 0 where
     pub cleared : k .flows (k .join c a) d ≡ true
@@ -86,17 +61,3 @@ module _ {L : Type 0} (k : Kind L) where
 
   pub raised : (s t : Session L) (c d a : L) → s .standing ≡ Some (record { label = c; clearance = d }) → done t ≡ raising k a s → Raised c d a t
   raised s t c d a e h = raised-by (k .flows (k .join c a) d) c d a s t refl (h ∙ rw e)
-
-  -- a raise that was turned down
-  pub record Unraised (c d a : L) (s t : Session L) (e : Refusal L) : Type 0 where
-    pub uncleared : k .flows (k .join c a) d ≡ false
-    pub session : t ≡ s
-    pub refusal : e ≡ AboveClearance c
-
-  unraised-by : (b : Bool) (c d a : L) (s t : Session L) (e : Refusal L) → k .flows (k .join c a) d ≡ b → refused {A = Unit} t e ≡ cond b (done (open-session (k .join c a) d)) (refused s (AboveClearance c)) → Unraised c d a s t e
-  unraised-by true c d a s t e is h = let q = ap (λ (o : Outcome L Unit). o .answer) h in let z : _≡_ {A = ℕ} 0 1 = cc in absurd (omega arith)
-  unraised-by false c d a s t e is h = let q = ap (λ (o : Outcome L Unit). o .answer) h in
-      record { uncleared = is; session = ap (λ (o : Outcome L Unit). o .session) h; refusal = cc }
-
-  pub unraised : (s t : Session L) (c d a : L) (e : Refusal L) → s .standing ≡ Some (record { label = c; clearance = d }) → refused {A = Unit} t e ≡ raising k a s → Unraised c d a s t e
-  unraised s t c d a e o h = unraised-by (k .flows (k .join c a) d) c d a s t e refl (h ∙ rw o)

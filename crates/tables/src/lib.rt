@@ -1,16 +1,18 @@
 // Table records, predicates, and the requests on tables. Nothing here names a label kind or a store.
+mod deletion;
 mod fills;
+mod insertion;
 mod places;
 mod queries;
 mod records;
-mod requests;
 mod scans;
+mod selection;
 
+pub use deletion::delete;
+pub use insertion::insert;
 pub use queries::Place;
 pub use queries::Predicate;
 pub use queries::Range;
 pub use records::SecondRule;
 pub use records::TableRecord;
-pub use requests::delete;
-pub use requests::insert;
-pub use requests::select;
+pub use selection::select;

@@ -3,7 +3,7 @@ use mathlib.Core.Path.{ap}
 use lib.ListN.{set}
 use Rattle.std.proofs.shelf.Maps.{nth-getD, nth-past}
 use Rattle.tables.specs.Steps.{Selected, read}
-use Rattle.tables.proofs.requests.select.Needs as need
+use Rattle.tables.proofs.selection.select.Needs as need
 
 pub returns-then-session-sessions : need.returns-then-session-sessions
 returns-then-session-sessions g c = search (needs, nth-past)

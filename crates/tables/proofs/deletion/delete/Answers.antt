@@ -1,6 +1,6 @@
 use borrow.Author.Needs.{needs}
 use Rattle.std.proofs.shelf.Maps.{nth-read, nth-past}
-use Rattle.tables.proofs.requests.delete.Needs as need
+use Rattle.tables.proofs.deletion.delete.Needs as need
 
 pub returns-then-session-sessions : need.returns-then-session-sessions
 returns-then-session-sessions g c = search (needs, nth-past)

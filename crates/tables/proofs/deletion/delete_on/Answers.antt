@@ -1,6 +1,6 @@
 use borrow.Author.Needs.{needs}
 use Rattle.tables.proofs.Entries.{entered, raised}
-use Rattle.tables.proofs.requests.insert_on.Needs as need
+use Rattle.tables.proofs.deletion.delete_on.Needs as need
 
 pub returns : need.returns
 returns g c =

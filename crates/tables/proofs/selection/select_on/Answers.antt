@@ -7,9 +7,9 @@ use Rattle.std.proofs.shelf.Results.{err-from-errBy}
 use Rattle.stores.specs.declared.rows.Row.{Row}
 use Rattle.stores.specs.Tables.{rows-in}
 use Rattle.tables.specs.Queries.{matching}
-use Rattle.tables.proofs.requests.select_on.Given as given
-use Rattle.tables.proofs.requests.select_on.Needs as need
-use Rattle.tables.proofs.requests.select_on.Needs.{After-look-on}
+use Rattle.tables.proofs.selection.select_on.Given as given
+use Rattle.tables.proofs.selection.select_on.Needs as need
+use Rattle.tables.proofs.selection.select_on.Needs.{After-look-on}
 
 abbrev rows : (g : given.Over) → After-look-on g → List Row
 rows g c = matching (c .args .predicate) (rows-in (g .S·Store .tables (c .args .store .now)) (c .args .table))
