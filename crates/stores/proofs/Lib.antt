@@ -2,3 +2,4 @@ pub mod Walks
 pub mod Puts
 pub mod Limits
 pub mod Sweeps
+pub mod Layouts
