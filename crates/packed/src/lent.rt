@@ -1,0 +1,72 @@
+// The rows lent to a store. Of them the stretch of a table alone is handed on to be written.
+ghost use mathlib.Core.Path.{_≡_};
+ghost use Prim.Native.Nat.{_+_, _≤_};
+ghost use lib.ListN.{length, take};
+ghost use Rattle.std.specs.shelf.Lists.{folded};
+ghost use Rattle.stores.specs.Changes.{adding, replacing, removing, sweeping};
+ghost use Rattle.packed.specs.Stretches.{Alone, Rewritten, part};
+use crate::stretch;
+use crate::stretch::Fill;
+use crate::stretch::Stretch;
+use stores::AddRefusal;
+use stores::Edit;
+use stores::Row;
+use stores::Visit;
+
+// Apart from the store, whose invariant would stand in the way of lending a part.
+#[derive(Drop)]
+pub struct Lent<'a> {
+    pub rows: &'a mut [Row],
+}
+
+impl<'a> Lent<'a> {
+    pub fn walk<V: Visit>(&self, at: Stretch, visitor: &mut V)
+        requires fits { ⌜ at .from + at .limit ≤ length (now (now self .rows)) ⌝ }
+        requires within { ⌜ at .fill .used ≤ at .limit ⌝ }
+        ensures { λ _. ⌜ now (visitor .exit) ≡ folded (V·Visit .step) (now (visitor .entry)) (take (at .fill .used) (part (now (now (self .entry) .rows)) at)) ⌝ }
+    {
+        let from = at.from;
+        let end = from + at.fill.used;
+        stretch::visit_each(&self.rows[from..end], visitor);
+    }
+
+    pub fn add(&mut self, at: Stretch, first: i32, second: i32) -> (Result<u32, AddRefusal>, Fill)
+        requires fits { ⌜ at .from + at .limit ≤ length (now (now self .rows)) ⌝ }
+        requires within { ⌜ at .fill .used ≤ at .limit ⌝ }
+        ensures { λ r. ⌜ Rewritten (Alone (λ ts. adding ts 0 first second) (r .0)) at (r .1) (now (now (self .entry) .rows)) (now (now (self .exit) .rows)) ⌝ }
+    {
+        let Stretch { from, limit, fill } = at;
+        let end = from + limit;
+        stretch::add(&mut self.rows[from..end], fill, first, second)
+    }
+
+    pub fn replace(&mut self, at: Stretch, place: usize, first: i32, second: i32) -> bool
+        requires fits { ⌜ at .from + at .limit ≤ length (now (now self .rows)) ⌝ }
+        requires within { ⌜ at .fill .used ≤ at .limit ⌝ }
+        ensures { λ r. ⌜ Rewritten (Alone (λ ts. replacing ts 0 place first second) r) at (at .fill) (now (now (self .entry) .rows)) (now (now (self .exit) .rows)) ⌝ }
+    {
+        let Stretch { from, limit, fill } = at;
+        let end = from + limit;
+        stretch::replace(&mut self.rows[from..end], fill, place, first, second)
+    }
+
+    pub fn remove(&mut self, at: Stretch, place: usize) -> (bool, Fill)
+        requires fits { ⌜ at .from + at .limit ≤ length (now (now self .rows)) ⌝ }
+        requires within { ⌜ at .fill .used ≤ at .limit ⌝ }
+        ensures { λ r. ⌜ Rewritten (Alone (λ ts. removing ts 0 place) (r .0)) at (r .1) (now (now (self .entry) .rows)) (now (now (self .exit) .rows)) ⌝ }
+    {
+        let Stretch { from, limit, fill } = at;
+        let end = from + limit;
+        stretch::remove(&mut self.rows[from..end], fill, place)
+    }
+
+    pub fn sweep<E: Edit>(&mut self, at: Stretch, editor: &E) -> (usize, Fill)
+        requires fits { ⌜ at .from + at .limit ≤ length (now (now self .rows)) ⌝ }
+        requires within { ⌜ at .fill .used ≤ at .limit ⌝ }
+        ensures { λ r. ⌜ Rewritten (Alone (λ ts. sweeping (E·Edit .decides (now (editor .entry))) ts 0) (r .0)) at (r .1) (now (now (self .entry) .rows)) (now (now (self .exit) .rows)) ⌝ }
+    {
+        let Stretch { from, limit, fill } = at;
+        let end = from + limit;
+        stretch::sweep(&mut self.rows[from..end], fill, editor)
+    }
+}
