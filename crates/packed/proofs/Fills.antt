@@ -29,13 +29,13 @@ module _ (rows : List Row) (fill : Fill) (within : fill .used ≤ length rows) w
   count-is = length-take-le (fill .used) rows within
 
   pub added : (f s : ℤ) → fill .used < length rows → fill .given < key-limit →
-      Alone (λ ts. adding ts 0 f s) (Ok (fill .given + 1)) (held rows fill) (held (set rows (fill .used) (row (fill .given + 1) f s)) (record { used = fill .used + 1; given = fill .given + 1 }))
+      Alone (λ ts n. adding ts n f s) (Ok (fill .given + 1)) (held rows fill) (held (set rows (fill .used) (row (fill .given + 1) f s)) (record { used = fill .used + 1; given = fill .given + 1 }))
   added f s room few = rw (count-is, lt-leb (length rows) (fill .used) room, lt-leb key-limit (fill .given) few, length-set, take-more-set rows (fill .used) (row (fill .given + 1) f s) room)
 
   -- the used rows alone were passed over
   module _ (fate : Row → Fate) (used kept count : ℕ) (new : List Row) (all : used ≡ fill .used) (long : length new ≡ length (take used rows)) (few : kept ≤ length (take used rows)) where
     pub swept : take kept new ≡ edited fate (take used rows) → count ≡ touched fate (take used rows) →
-        Alone (λ ts. sweeping fate ts 0) count (held rows fill) (held (new ++ drop used rows) (record { used = kept; given = fill .given }))
+        Alone (sweeping fate) count (held rows fill) (held (new ++ drop used rows) (record { used = kept; given = fill .given }))
     swept e c =
         let l : length (new ++ drop used rows) ≡ length rows = simp (length-append, length-drop, length-take) (omega (arith, length-take used rows)) in
         rw (l, take-append-le kept new (drop used rows) (omega arith), e, c, all)
@@ -47,17 +47,17 @@ module _ (rows : List Row) (fill : Fill) (within : fill .used ≤ length rows) w
     no-row : fill .used ≤ place → nth (take (fill .used) rows) place ≡ None
     no-row h = nth-past (take (fill .used) rows) place (rw count-is h)
 
-    pub none-replaced : (f s : ℤ) → fill .used ≤ place → Alone (λ ts. replacing ts 0 place f s) false (held rows fill) (held rows fill)
+    pub none-replaced : (f s : ℤ) → fill .used ≤ place → Alone (λ ts n. replacing ts n place f s) false (held rows fill) (held rows fill)
     none-replaced f s h = rw (no-row h)
 
-    pub none-removed : fill .used ≤ place → Alone (λ ts. removing ts 0 place) false (held rows fill) (held rows fill)
+    pub none-removed : fill .used ≤ place → Alone (λ ts n. removing ts n place) false (held rows fill) (held rows fill)
     none-removed h = rw (no-row h)
 
     module _ (there : place < fill .used) where
       row-there : nth (take (fill .used) rows) place ≡ Some (getD rows place blank)
       row-there = nth-getD (take (fill .used) rows) place blank (rw count-is there) ∙ ap Some (getD-take (fill .used) rows place blank there)
 
-      pub replaced : (f s : ℤ) → Alone (λ ts. replacing ts 0 place f s) true (held rows fill) (held (set rows place (row (getD rows place blank .key) f s)) fill)
+      pub replaced : (f s : ℤ) → Alone (λ ts n. replacing ts n place f s) true (held rows fill) (held (set rows place (row (getD rows place blank .key) f s)) fill)
       replaced f s = rw (row-there, length-set, take-set-lt (fill .used) rows place (row (getD rows place blank .key) f s) there)
 
       -- the later rows moved down by one
@@ -73,5 +73,5 @@ module _ (rows : List Row) (fill : Fill) (within : fill .used ≤ length rows) w
           rw (take-at (take place rows ++ take n (drop (place + 1) rows)) (drop (place + n) rows) (fill .used - 1) long, take-take place (fill .used) rows (omega arith), ← add-one place, e)
 
       pub removed : (after : List Row) → after ≡ shifted → length after ≡ length rows →
-          Alone (λ ts. removing ts 0 place) true (held rows fill) (held after (record { used = fill .used - 1; given = fill .given }))
+          Alone (λ ts n. removing ts n place) true (held rows fill) (held after (record { used = fill .used - 1; given = fill .given }))
       removed after e l = rw (row-there, l, e, shifted-front)

@@ -1,2 +1,4 @@
 pub mod Fills
 pub mod Compacts
+pub mod Splices
+pub mod Meaning

@@ -40,8 +40,8 @@ abbrev pub spliced : List Row → Stretch → List Row → List Row
 spliced rows s new = take (s .from) rows ++ (new ++ drop (s .limit) (drop (s .from) rows))
 
 -- A change of a store took one table, had it stood alone, to another.
-abbrev pub Alone : {A : Type 0} → (List Table → Changed A) → A → Table → Table → Type 0
-Alone change answer t u = changed answer (u ∷ []) ≡ change (t ∷ [])
+abbrev pub Alone : {A : Type 0} → (List Table → ℕ → Changed A) → A → Table → Table → Type 0
+Alone change answer t u = changed answer (u ∷ []) ≡ change (t ∷ []) 0
 
 -- No row outside of a stretch was written, and its table was taken to another.
 pub record Rewritten (Takes : Table → Table → Type 0) (s : Stretch) (fill : Fill) (before after : List Row) : Type 0 where

@@ -33,7 +33,7 @@ impl<'a> Lent<'a> {
     pub fn add(&mut self, at: Stretch, first: i32, second: i32) -> (Result<u32, AddRefusal>, Fill)
         requires fits { ⌜ at .from + at .limit ≤ length (now (now self .rows)) ⌝ }
         requires within { ⌜ at .fill .used ≤ at .limit ⌝ }
-        ensures { λ r. ⌜ Rewritten (Alone (λ ts. adding ts 0 first second) (r .0)) at (r .1) (now (now (self .entry) .rows)) (now (now (self .exit) .rows)) ⌝ }
+        ensures { λ r. ⌜ Rewritten (Alone (λ ts n. adding ts n first second) (r .0)) at (r .1) (now (now (self .entry) .rows)) (now (now (self .exit) .rows)) ⌝ }
     {
         let Stretch { from, limit, fill } = at;
         let end = from + limit;
@@ -43,7 +43,7 @@ impl<'a> Lent<'a> {
     pub fn replace(&mut self, at: Stretch, place: usize, first: i32, second: i32) -> bool
         requires fits { ⌜ at .from + at .limit ≤ length (now (now self .rows)) ⌝ }
         requires within { ⌜ at .fill .used ≤ at .limit ⌝ }
-        ensures { λ r. ⌜ Rewritten (Alone (λ ts. replacing ts 0 place first second) r) at (at .fill) (now (now (self .entry) .rows)) (now (now (self .exit) .rows)) ⌝ }
+        ensures { λ r. ⌜ Rewritten (Alone (λ ts n. replacing ts n place first second) r) at (at .fill) (now (now (self .entry) .rows)) (now (now (self .exit) .rows)) ⌝ }
     {
         let Stretch { from, limit, fill } = at;
         let end = from + limit;
@@ -53,7 +53,7 @@ impl<'a> Lent<'a> {
     pub fn remove(&mut self, at: Stretch, place: usize) -> (bool, Fill)
         requires fits { ⌜ at .from + at .limit ≤ length (now (now self .rows)) ⌝ }
         requires within { ⌜ at .fill .used ≤ at .limit ⌝ }
-        ensures { λ r. ⌜ Rewritten (Alone (λ ts. removing ts 0 place) (r .0)) at (r .1) (now (now (self .entry) .rows)) (now (now (self .exit) .rows)) ⌝ }
+        ensures { λ r. ⌜ Rewritten (Alone (λ ts n. removing ts n place) (r .0)) at (r .1) (now (now (self .entry) .rows)) (now (now (self .exit) .rows)) ⌝ }
     {
         let Stretch { from, limit, fill } = at;
         let end = from + limit;
@@ -63,7 +63,7 @@ impl<'a> Lent<'a> {
     pub fn sweep<E: Edit>(&mut self, at: Stretch, editor: &E) -> (usize, Fill)
         requires fits { ⌜ at .from + at .limit ≤ length (now (now self .rows)) ⌝ }
         requires within { ⌜ at .fill .used ≤ at .limit ⌝ }
-        ensures { λ r. ⌜ Rewritten (Alone (λ ts. sweeping (E·Edit .decides (now (editor .entry))) ts 0) (r .0)) at (r .1) (now (now (self .entry) .rows)) (now (now (self .exit) .rows)) ⌝ }
+        ensures { λ r. ⌜ Rewritten (Alone (sweeping (E·Edit .decides (now (editor .entry)))) (r .0)) at (r .1) (now (now (self .entry) .rows)) (now (now (self .exit) .rows)) ⌝ }
     {
         let Stretch { from, limit, fill } = at;
         let end = from + limit;

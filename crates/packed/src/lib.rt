@@ -1,3 +1,7 @@
 // A store whose tables each have a stretch of one list of lent rows.
 mod lent;
+mod packed;
 mod stretch;
+
+pub use packed::Packed;
+pub use packed::PackedStore;

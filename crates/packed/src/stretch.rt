@@ -36,7 +36,7 @@ pub fn visit_each<V: Visit>(rows: &[Row], visitor: &mut V)
 
 pub fn add(rows: &mut [Row], fill: Fill, first: i32, second: i32) -> (Result<u32, AddRefusal>, Fill)
     requires { ⌜ fill .used ≤ length (now rows) ⌝ }
-    ensures change { λ r. ⌜ Alone (λ ts. adding ts 0 first second) (r .0) (held (now (rows .entry)) fill) (held (now (rows .exit)) (r .1)) ⌝ }
+    ensures change { λ r. ⌜ Alone (λ ts n. adding ts n first second) (r .0) (held (now (rows .entry)) fill) (held (now (rows .exit)) (r .1)) ⌝ }
     ensures within { λ r. ⌜ r .1 .used ≤ length (now (rows .exit)) ⌝ }
 {
     if fill.used >= rows.len() {
@@ -58,7 +58,7 @@ pub fn add(rows: &mut [Row], fill: Fill, first: i32, second: i32) -> (Result<u32
 
 pub fn replace(rows: &mut [Row], fill: Fill, place: usize, first: i32, second: i32) -> bool
     requires { ⌜ fill .used ≤ length (now rows) ⌝ }
-    ensures { λ r. ⌜ Alone (λ ts. replacing ts 0 place first second) r (held (now (rows .entry)) fill) (held (now (rows .exit)) fill) ⌝ }
+    ensures { λ r. ⌜ Alone (λ ts n. replacing ts n place first second) r (held (now (rows .entry)) fill) (held (now (rows .exit)) fill) ⌝ }
 {
     if place >= fill.used {
         return false;
@@ -70,7 +70,7 @@ pub fn replace(rows: &mut [Row], fill: Fill, place: usize, first: i32, second: i
 
 pub fn remove(rows: &mut [Row], fill: Fill, place: usize) -> (bool, Fill)
     requires { ⌜ fill .used ≤ length (now rows) ⌝ }
-    ensures change { λ r. ⌜ Alone (λ ts. removing ts 0 place) (r .0) (held (now (rows .entry)) fill) (held (now (rows .exit)) (r .1)) ⌝ }
+    ensures change { λ r. ⌜ Alone (λ ts n. removing ts n place) (r .0) (held (now (rows .entry)) fill) (held (now (rows .exit)) (r .1)) ⌝ }
     ensures within { λ r. ⌜ r .1 .used ≤ length (now (rows .exit)) ⌝ }
 {
     if place >= fill.used {
@@ -131,7 +131,7 @@ fn compact<E: Edit>(rows: &mut [Row], editor: &E) -> Compacted
 
 pub fn sweep<E: Edit>(rows: &mut [Row], fill: Fill, editor: &E) -> (usize, Fill)
     requires { ⌜ fill .used ≤ length (now rows) ⌝ }
-    ensures change { λ r. ⌜ Alone (λ ts. sweeping (E·Edit .decides (now (editor .entry))) ts 0) (r .0) (held (now (rows .entry)) fill) (held (now (rows .exit)) (r .1)) ⌝ }
+    ensures change { λ r. ⌜ Alone (sweeping (E·Edit .decides (now (editor .entry)))) (r .0) (held (now (rows .entry)) fill) (held (now (rows .exit)) (r .1)) ⌝ }
     ensures within { λ r. ⌜ r .1 .used ≤ length (now (rows .exit)) ⌝ }
 {
     let used = fill.used;
