@@ -50,3 +50,8 @@ pub record Rewritten (Takes : Table → Table → Type 0) (s : Stretch) (fill : 
   pub within : fill .used ≤ s .limit
   pub takes : Takes (table-in before s) (held new fill)
   pub rest : after ≡ spliced before s new
+
+-- Stretches for limits, one behind the other from a place on, with no row and no key given.
+abbrev pub empty-stretches : ℕ → List ℕ → List Stretch
+empty-stretches start [] = []
+empty-stretches start (l ∷ ls) = record { from = start; limit = l; fill = record { used = 0; given = 0 } } ∷ empty-stretches (start + l) ls

@@ -1,4 +1,5 @@
 // A store whose tables each have a stretch of one list of lent rows.
+mod laying;
 mod lent;
 mod packed;
 mod stretch;

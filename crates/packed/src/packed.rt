@@ -7,10 +7,12 @@ ghost use Rattle.stores.specs.Layout.{new-tables};
 ghost use Rattle.stores.specs.Plans.{limits-of};
 ghost use Rattle.packed.specs.Stretches.{In-order, tables-of};
 ghost use Rattle.packed.specs.Soundness.{sound-store};
+use crate::laying::lay_out;
 use crate::lent::Lent;
 use crate::stretch::Stretch;
 use stores::AddRefusal;
 use stores::Edit;
+use stores::Plan;
 use stores::Row;
 use stores::Store;
 use stores::Visit;
@@ -24,6 +26,21 @@ pub struct Packed<'a> {
     ghost room: { length stretches ≡ 8 },
     ghost few: { count ≤ 8 },
     ghost order: { ∥ In-order 0 (now (lent .rows)) (take count stretches) ∥₁ },
+}
+
+impl<'a> Packed<'a> {
+    // A store with the tables of the plan. What the rows held before is forgotten.
+    pub fn new<const N: usize>(plan: Plan<N>, rows: &'a mut [Row; N]) -> Packed<'a>
+        ensures { λ r. ⌜ tables-of (now (r .lent .rows)) (r .stretches) (r .count) ≡ new-tables (limits-of (plan .entry)) ⌝ }
+    {
+        let stretches = lay_out(&plan);
+        let count = plan.count();
+        Packed {
+            lent: Lent { rows },
+            stretches,
+            count,
+        }
+    }
 }
 
 pub impl<'a> Store for Packed<'a> as PackedStore {
