@@ -12,7 +12,11 @@ pub fn lay_out<const N: usize>(plan: &Plan<N>) -> [Stretch; 8]
     ensures laid { λ r. ⌜ take (length (limits-of (now (plan .entry)))) r ≡ empty-stretches 0 (limits-of (now (plan .entry))) ⌝ }
 {
     let fill = Fill { used: 0, given: 0 };
-    let mut stretches = [Stretch { from: 0, limit: 0, fill }; 8];
+    let mut stretches = [Stretch {
+        from: 0,
+        limit: 0,
+        fill,
+    }; 8];
     let mut from = 0;
     for table in 0..plan.count() {
         let limit = plan.limit(table);

@@ -1,10 +1,9 @@
 // The rows lent to a store. Of them the stretch of a table alone is handed on to be written.
 ghost use mathlib.Core.Path.{_≡_};
-ghost use Prim.Native.Nat.{_+_, _≤_};
-ghost use lib.ListN.{length, take};
+ghost use lib.ListN.{take};
 ghost use Rattle.std.specs.shelf.Lists.{folded};
 ghost use Rattle.stores.specs.Changes.{adding, replacing, removing, sweeping};
-ghost use Rattle.packed.specs.Stretches.{Alone, Rewritten, part};
+ghost use Rattle.packed.specs.Stretches.{Alone, Lies, Rewritten, part};
 use crate::stretch;
 use crate::stretch::Fill;
 use crate::stretch::Stretch;
@@ -21,8 +20,7 @@ pub struct Lent<'a> {
 
 impl<'a> Lent<'a> {
     pub fn walk<V: Visit>(&self, at: Stretch, visitor: &mut V)
-        requires fits { ⌜ at .from + at .limit ≤ length (now (now self .rows)) ⌝ }
-        requires within { ⌜ at .fill .used ≤ at .limit ⌝ }
+        requires { ⌜ Lies (now (now self .rows)) at ⌝ }
         ensures { λ _. ⌜ now (visitor .exit) ≡ folded (V·Visit .step) (now (visitor .entry)) (take (at .fill .used) (part (now (now (self .entry) .rows)) at)) ⌝ }
     {
         let from = at.from;
@@ -31,8 +29,7 @@ impl<'a> Lent<'a> {
     }
 
     pub fn add(&mut self, at: Stretch, first: i32, second: i32) -> (Result<u32, AddRefusal>, Fill)
-        requires fits { ⌜ at .from + at .limit ≤ length (now (now self .rows)) ⌝ }
-        requires within { ⌜ at .fill .used ≤ at .limit ⌝ }
+        requires { ⌜ Lies (now (now self .rows)) at ⌝ }
         ensures { λ r. ⌜ Rewritten (Alone (λ ts n. adding ts n first second) (r .0)) at (r .1) (now (now (self .entry) .rows)) (now (now (self .exit) .rows)) ⌝ }
     {
         let Stretch { from, limit, fill } = at;
@@ -41,8 +38,7 @@ impl<'a> Lent<'a> {
     }
 
     pub fn replace(&mut self, at: Stretch, place: usize, first: i32, second: i32) -> bool
-        requires fits { ⌜ at .from + at .limit ≤ length (now (now self .rows)) ⌝ }
-        requires within { ⌜ at .fill .used ≤ at .limit ⌝ }
+        requires { ⌜ Lies (now (now self .rows)) at ⌝ }
         ensures { λ r. ⌜ Rewritten (Alone (λ ts n. replacing ts n place first second) r) at (at .fill) (now (now (self .entry) .rows)) (now (now (self .exit) .rows)) ⌝ }
     {
         let Stretch { from, limit, fill } = at;
@@ -51,8 +47,7 @@ impl<'a> Lent<'a> {
     }
 
     pub fn remove(&mut self, at: Stretch, place: usize) -> (bool, Fill)
-        requires fits { ⌜ at .from + at .limit ≤ length (now (now self .rows)) ⌝ }
-        requires within { ⌜ at .fill .used ≤ at .limit ⌝ }
+        requires { ⌜ Lies (now (now self .rows)) at ⌝ }
         ensures { λ r. ⌜ Rewritten (Alone (λ ts n. removing ts n place) (r .0)) at (r .1) (now (now (self .entry) .rows)) (now (now (self .exit) .rows)) ⌝ }
     {
         let Stretch { from, limit, fill } = at;
@@ -61,8 +56,7 @@ impl<'a> Lent<'a> {
     }
 
     pub fn sweep<E: Edit>(&mut self, at: Stretch, editor: &E) -> (usize, Fill)
-        requires fits { ⌜ at .from + at .limit ≤ length (now (now self .rows)) ⌝ }
-        requires within { ⌜ at .fill .used ≤ at .limit ⌝ }
+        requires { ⌜ Lies (now (now self .rows)) at ⌝ }
         ensures { λ r. ⌜ Rewritten (Alone (sweeping (E·Edit .decides (now (editor .entry)))) (r .0)) at (r .1) (now (now (self .entry) .rows)) (now (now (self .exit) .rows)) ⌝ }
     {
         let Stretch { from, limit, fill } = at;

@@ -3,6 +3,8 @@ mod laying;
 mod lent;
 mod packed;
 mod stretch;
+#[cfg(test)]
+mod tests;
 
 pub use packed::Packed;
 pub use packed::PackedStore;

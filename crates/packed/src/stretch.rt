@@ -26,6 +26,13 @@ pub struct Stretch {
     pub fill: Fill,
 }
 
+// How many rows a pass leaves, and how many it rewrote or removed.
+#[derive(Clone, Copy)]
+pub struct Compacted {
+    pub kept: usize,
+    pub touched: usize,
+}
+
 pub fn visit_each<V: Visit>(rows: &[Row], visitor: &mut V)
     ensures { λ _. ⌜ now (visitor .exit) ≡ folded (V·Visit .step) (now (visitor .entry)) (now (rows .entry)) ⌝ }
 {
@@ -85,13 +92,6 @@ pub fn remove(rows: &mut [Row], fill: Fill, place: usize) -> (bool, Fill)
             given: fill.given,
         },
     )
-}
-
-// How many rows a pass leaves, and how many it rewrote or removed.
-#[derive(Clone, Copy)]
-pub struct Compacted {
-    pub kept: usize,
-    pub touched: usize,
 }
 
 // A pass over all rows, with a place that is read and one, never ahead of it, that is written.

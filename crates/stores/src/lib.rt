@@ -6,7 +6,10 @@ mod store;
 mod visits;
 
 pub use plan::LayoutRefusal;
+pub use plan::LayoutRefusalDebug;
 pub use plan::LayoutRefusalDisplay;
+pub use plan::LayoutRefusalEq;
+pub use plan::LayoutRefusalPartialEq;
 pub use plan::Plan;
 pub use rows::AddRefusal;
 pub use rows::Fate;

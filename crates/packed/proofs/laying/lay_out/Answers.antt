@@ -27,4 +27,5 @@ returns g c =
     let end : c .loop-table .table ≡ length ls = omega arith in
     record {
       room = c .loop-table .inv .0;
-      laid = ap (λ n. take n (c .loop-table .stretches)) (sym end) ∙ c .loop-table .inv .1 ∙ ap (empty-stretches 0) (take-all (c .loop-table .table) ls (omega arith)) }
+      laid = ap (λ n. take n (c .loop-table .stretches)) (sym end) ∙ c .loop-table .inv .1 ∙ ap (empty-stretches 0) (take-all (c .loop-table .table) ls (omega arith));
+    }

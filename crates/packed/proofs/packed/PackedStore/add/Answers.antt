@@ -10,7 +10,7 @@ pub returns-then-table-self : need.returns-then-table-self
 returns-then-table-self c = record { change = none-adding _ (c .args .table) (no-table (c .args .self .now) (c .args .table) (c .if-table-self .taken)) (c .args .first) (c .args .second); limits = refl }
 
 pub add-answer-requires : need.add-answer-requires
-add-answer-requires c κs = let l = lies-there (c .args .self .now) (c .args .table) (c .if-table-self .left) in record { fits = l .fits; within = l .within }
+add-answer-requires c κs = lies-there (c .args .self .now) (c .args .table) (c .if-table-self .left)
 
 pub ghost-self : need.ghost-self
 ghost-self c =

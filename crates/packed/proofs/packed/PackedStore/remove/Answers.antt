@@ -9,7 +9,7 @@ pub returns-then-table-self : need.returns-then-table-self
 returns-then-table-self c = record { change = none-removing _ (c .args .table) (no-table (c .args .self .now) (c .args .table) (c .if-table-self .taken)) (c .args .place); limits = refl }
 
 pub remove-answer-requires : need.remove-answer-requires
-remove-answer-requires c κs = let l = lies-there (c .args .self .now) (c .args .table) (c .if-table-self .left) in record { fits = l .fits; within = l .within }
+remove-answer-requires c κs = lies-there (c .args .self .now) (c .args .table) (c .if-table-self .left)
 
 pub ghost-self : need.ghost-self
 ghost-self c =

@@ -13,7 +13,7 @@ returns-then-table-self c =
     record { change = none-replacing _ (c .args .table) (no-table (c .args .self .now) (c .args .table) (c .if-table-self .taken)) (c .args .place) (c .args .first) (c .args .second); limits = refl }
 
 pub replace-requires : need.replace-requires
-replace-requires c κs = let l = lies-there (c .args .self .now) (c .args .table) (c .if-table-self .left) in record { fits = l .fits; within = l .within }
+replace-requires c κs = lies-there (c .args .self .now) (c .args .table) (c .if-table-self .left)
 
 pub ghost-self : need.ghost-self
 ghost-self c =

@@ -10,7 +10,7 @@ returns-then-table-self g c =
     record { change = none-sweeping _ (c .args .table) (no-table (c .args .self .now) (c .args .table) (c .if-table-self .taken)) (g .E·Edit .decides (c .args .editor .now)); limits = refl }
 
 pub sweep-answer-requires : need.sweep-answer-requires
-sweep-answer-requires g c κs = let l = lies-there (c .args .self .now) (c .args .table) (c .if-table-self .left) in record { fits = l .fits; within = l .within }
+sweep-answer-requires g c κs = lies-there (c .args .self .now) (c .args .table) (c .if-table-self .left)
 
 pub ghost-self : need.ghost-self
 ghost-self g c =

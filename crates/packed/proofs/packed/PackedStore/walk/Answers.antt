@@ -5,7 +5,7 @@ use Rattle.packed.proofs.Meaning.{no-table, lies-there, table-there}
 use Rattle.packed.proofs.packed.PackedStore.walk.Needs as need
 
 pub walk-requires : need.walk-requires
-walk-requires g c κs = let l = lies-there (c .args .self .now) (c .args .table) (c .if-table-self .taken) in record { fits = l .fits; within = l .within }
+walk-requires g c κs = lies-there (c .args .self .now) (c .args .table) (c .if-table-self .taken)
 
 pub returns-then-table-self : need.returns-then-table-self
 returns-then-table-self g c =
