@@ -1,6 +1,6 @@
 -- Rows kept, rewritten or removed in place, front to back. Assumes nothing.
-use mathlib.Core.Path.{_≡_, refl, sym, _∙_, ap}
-use mathlib.Core.List.{List, [], _∷_, _++_, append-assoc}
+use mathlib.Core.Path.{_≡_, refl, sym, _∙_}
+use mathlib.Core.List.{List, _∷_, _++_, append-assoc}
 use Prim.Native.Nat.{ℕ, _+_, _≤_, _<_}
 use native.Mathlib.Nat.{zero-add, add-zero, add-assoc}
 use native.Mathlib.Omega.{arith}
@@ -20,9 +20,6 @@ module _ (fate : Row → Fate) (old : List Row) where
     pub long : length new ≡ length old
     pub rows : take kept new ++ edited fate (drop place new) ≡ edited fate old
     pub total : count + touched fate (drop place new) ≡ touched fate old
-
-  pub none-decided : Halfway old 0 0 0
-  none-decided = record { behind = omega arith; few = omega arith; long = refl; rows = refl; total = zero-add _ }
 
   module _ (new : List Row) (kept count place : ℕ) (h : Halfway new kept count place) (end : length new ≤ place) where
     pub all-kept : take kept new ≡ edited fate old

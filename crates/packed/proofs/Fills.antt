@@ -1,8 +1,8 @@
 -- One stretch whose rows are changed as if its table stood alone. Assumes nothing.
-use mathlib.Core.Path.{_≡_, refl, sym, _∙_, ap, subst}
+use mathlib.Core.Path.{_≡_, _∙_, ap, subst}
 use mathlib.Core.Bool.{true, false}
-use mathlib.Core.List.{List, [], _∷_, _++_}
-use Prim.Native.Nat.{ℕ, suc, _+_, _-_, _≤_, _<_}
+use mathlib.Core.List.{List, _++_}
+use Prim.Native.Nat.{ℕ, _+_, _-_, _≤_, _<_}
 use native.Mathlib.Numerals.{add-one}
 use native.Mathlib.Omega.{arith}
 use lib.IntN.{ℤ, pos}
@@ -10,7 +10,7 @@ use lib.ListN.{length, take, drop, set, getD, length-set, length-take, length-dr
 use lib.Seq.{paste, take-set-lt}
 use Rattle.std.specs.shelf.Maps.{nth}
 use Rattle.std.specs.declared.option.Option.the-variants.{Some, None}
-use Rattle.std.specs.declared.result.Result.the-variants.{Ok, Err}
+use Rattle.std.specs.declared.result.Result.the-variants.{Ok}
 use Rattle.std.proofs.shelf.Lists.{length-take-le, take-take, take-at, take-append-le, take-more-set, getD-take, drop-take}
 use Rattle.std.proofs.shelf.Maps.{nth-getD, nth-past}
 use Rattle.std.proofs.shelf.Tests.{lt-leb}
@@ -37,7 +37,7 @@ module _ (rows : List Row) (fill : Fill) (within : fill .used ≤ length rows) w
     pub swept : take kept new ≡ edited fate (take used rows) → count ≡ touched fate (take used rows) →
         Alone (sweeping fate) count (held rows fill) (held (new ++ drop used rows) (record { used = kept; given = fill .given }))
     swept e c =
-        let l : length (new ++ drop used rows) ≡ length rows = simp (length-append, length-drop, length-take) (omega (arith, length-take used rows)) in
+        let l : length (new ++ drop used rows) ≡ length rows = simp (length-append, length-drop) (omega (arith, length-take used rows)) in
         rw (l, take-append-le kept new (drop used rows) (omega arith), e, c, all)
 
     pub swept-within : kept ≤ length (new ++ drop used rows)

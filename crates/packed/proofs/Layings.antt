@@ -1,5 +1,5 @@
 -- Stretches laid out one by one. Assumes nothing.
-use mathlib.Core.Path.{_≡_, refl, sym, _∙_, ap}
+use mathlib.Core.Path.{_≡_, refl, ap}
 use mathlib.Core.List.{List, [], _∷_, _++_, map}
 use Prim.Native.Nat.{ℕ, _+_, _≤_, _<_}
 use native.Mathlib.Nat.{add-zero, zero-add, add-assoc}
@@ -9,7 +9,6 @@ use Rattle.std.specs.shelf.Lists.{sum}
 use Rattle.std.proofs.shelf.Lists.{length-take-le, take-more, take-more-set}
 use Rattle.std.proofs.shelf.Sums.{sumBy-cons}
 use Rattle.stores.specs.declared.rows.Row.{Row}
-use Rattle.stores.specs.Tables.{Table}
 use Rattle.stores.specs.Layout.{new-tables}
 use Rattle.packed.specs.declared.stretch.Stretch.{Stretch}
 use Rattle.packed.specs.Stretches.{table-in, tables-of, In-order, empty-stretches}

@@ -1,7 +1,7 @@
 -- One stretch is rewritten: the others, and the tables in them, stay as they were. Assumes nothing.
 use mathlib.Core.Path.{_≡_, refl, sym, _∙_, ap, subst}
 use mathlib.Core.List.{List, [], _∷_, _++_, map}
-use Prim.Native.Nat.{ℕ, zero, suc, _+_, _-_, _≤_, _<_}
+use Prim.Native.Nat.{ℕ, zero, suc, _+_, _≤_}
 use native.Mathlib.Omega.{arith}
 use lib.ListN.{length, take, drop, set, length-take, length-drop, length-append}
 use Rattle.std.specs.shelf.Maps.{nth}
@@ -9,7 +9,7 @@ use Rattle.std.specs.declared.option.Option.the-variants.{Some}
 use Rattle.std.proofs.shelf.Lists.{drop-take, drop-at, take-at, length-take-le}
 use Rattle.std.proofs.shelf.Parts.{take-putMid-below, drop-putMid}
 use Rattle.stores.specs.declared.rows.Row.{Row}
-use Rattle.stores.specs.Tables.{Table, Sound-table}
+use Rattle.stores.specs.Tables.{Sound-table}
 use Rattle.packed.specs.declared.stretch.Fill.{Fill}
 use Rattle.packed.specs.declared.stretch.Stretch.{Stretch}
 use Rattle.packed.specs.Stretches.{held, part, table-in, Lies, In-order, spliced}

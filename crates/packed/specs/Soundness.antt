@@ -1,5 +1,4 @@
 -- Stretches that lie in order mean sound tables. Assumes nothing.
-use mathlib.Core.Path.{_≡_, _∙_}
 use mathlib.Core.List.{List, [], _∷_, map}
 use mathlib.Core.Logic.{∥∥₁-elim, ∥∥₁-prop}
 use Prim.Native.Nat.{ℕ, _+_, _≤_}
@@ -7,7 +6,7 @@ use native.Mathlib.Bridge.{le-prop}
 use native.Mathlib.Omega.{arith}
 use denote.Struct.Props.{three-prop}
 use denote.Struct.Record.{done-prop}
-use lib.ListN.{length, take, length-take, length-map}
+use lib.ListN.{take, length-take, length-map}
 use Rattle.std.specs.shelf.Lists.{All}
 use Rattle.stores.specs.declared.rows.Row.{Row}
 use Rattle.stores.specs.Tables.{Rising, Sound-table, Sound}

@@ -6,7 +6,7 @@ use native.Mathlib.Omega.{arith}
 use lib.IntN.{ℤ}
 use lib.ListN.{set}
 use Rattle.std.specs.shelf.Maps.{nth}
-use Rattle.std.specs.declared.option.Option.the-variants.{Some, None}
+use Rattle.std.specs.declared.option.Option.the-variants.{Some}
 use Rattle.stores.specs.declared.rows.Row.{Row}
 use Rattle.stores.specs.declared.rows.Fate.{Fate}
 use Rattle.stores.specs.declared.rows.Fate.the-variants.{Keep, Rewrite, Remove}

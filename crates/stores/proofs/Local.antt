@@ -1,5 +1,5 @@
 -- Each change of a store touches one table, as if that table stood alone, and leaves it sound. Assumes nothing.
-use mathlib.Core.Path.{_≡_, refl, sym, _∙_, ap, subst}
+use mathlib.Core.Path.{_≡_, refl, sym, ap, subst}
 use mathlib.Core.Bool.{Bool, true, false, cond}
 use mathlib.Core.List.{List, [], _∷_}
 use Prim.Native.Nat.{ℕ, _+_}
@@ -17,8 +17,8 @@ use Rattle.stores.specs.declared.rows.Row.{Row}
 use Rattle.stores.specs.declared.rows.Fate.{Fate}
 use Rattle.stores.specs.declared.rows.AddRefusal.{AddRefusal}
 use Rattle.stores.specs.declared.rows.AddRefusal.the-variants.{NoTable, TableFull, KeysSpent}
-use Rattle.stores.specs.Tables.{Table, Sound-table, key-limit, rows-in}
-use Rattle.stores.specs.Changes.{Changed, changed, row, grown, with-rows, rows-put, adding, replacing-row, replacing, without, removing-row, removing, edited, sweeping}
+use Rattle.stores.specs.Tables.{Table, Sound-table, key-limit}
+use Rattle.stores.specs.Changes.{Changed, changed, grown, adding, replacing-row, replacing, removing-row, removing, sweeping}
 use Rattle.stores.proofs.Keys.{rising-added, rising-replaced, rising-without, rising-edited}
 use Rattle.stores.proofs.Puts.{set-nth}
 

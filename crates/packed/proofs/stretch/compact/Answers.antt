@@ -5,7 +5,7 @@ use Prim.Native.Nat.{_<_}
 use native.Mathlib.Omega.{arith}
 use lib.ListN.{length}
 use Rattle.std.proofs.shelf.Signed.{toZ-ofZ}
-use Rattle.packed.proofs.Compacts.{none-decided, all-kept, all-counted, turn-keep, turn-rewrite, turn-remove}
+use Rattle.packed.proofs.Compacts.{all-kept, all-counted, turn-keep, turn-rewrite, turn-remove}
 use Rattle.packed.proofs.stretch.compact.Needs as need
 use Rattle.packed.proofs.stretch.compact.Needs.{in-Keep, in-Rewrite, in-Remove}
 
