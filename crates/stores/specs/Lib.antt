@@ -1,2 +1,4 @@
 pub mod Tables
 pub mod Changes
+pub mod Layout
+pub mod Plans

@@ -1,8 +1,16 @@
-// What a store is: an interface whose meaning is a list of tables.
+// What a store is: an interface whose meaning is a list of tables, and the layout of a store from the limits of its tables.
+mod layout;
+mod plan;
 mod rows;
 mod store;
 mod visits;
 
+pub use plan::LayoutRefusal;
+pub use plan::LayoutRefusalDebug;
+pub use plan::LayoutRefusalDisplay;
+pub use plan::LayoutRefusalEq;
+pub use plan::LayoutRefusalPartialEq;
+pub use plan::Plan;
 pub use rows::AddRefusal;
 pub use rows::Fate;
 pub use rows::Row;
