@@ -1,19 +1,19 @@
 // Requests as a person writes them, with labels as numbers, and what they answer.
 use labels::Rung;
-use labels::RungDisplay;
 use labels::RungLabel;
 use labels::UnlawfulLabel;
-use labels::UnlawfulLabelDisplay;
+use packed::Packed;
+use packed::PackedStore;
 use sessions::Refusal;
-use sessions::RefusalDisplay;
 use sessions::Sealed;
 use sessions::Session;
-use std::alloc::AllocError;
-use std::alloc::Global;
-use std::fmt;
+use tables::Place;
+use tables::Predicate;
+use tables::TableRecord;
 
 // What is asked of a session: opening from a label to a clearance, raising to a label, lowering the clearance to a label,
-// sealing a value under a label, unsealing what a label seals.
+// sealing a value under a label, unsealing what a label seals; and of a table of a number: selecting with so many places,
+// inserting two sealed values, deleting.
 #[derive(Clone, Copy)]
 pub enum Ask {
     Open(u64, u64),
@@ -21,33 +21,23 @@ pub enum Ask {
     Lower(u64),
     Seal(i32, u64),
     Unseal(u64, i32),
+    Select(usize, Predicate, usize),
+    Insert(usize, (u64, i32), (u64, i32)),
+    Delete(usize, Predicate),
 }
 
 // The number of a session, and what is asked of it.
 #[derive(Clone, Copy)]
 pub struct Request(pub usize, pub Ask);
 
-pub impl fmt::Display for Request as RequestDisplay {
-    fn fmt<W: fmt::Write>(&self, f: &mut fmt::Formatter<W>) -> fmt::Result {
-        let Request(session, ask) = *self;
-        match ask {
-            Ask::Open(label, clearance) => write!(
-                f,
-                "open session {session} from {label} to {clearance}"
-            ),
-            Ask::Raise(to) => write!(f, "session {session} raises its label to {to}"),
-            Ask::Lower(to) => write!(f, "session {session} lowers its clearance to {to}"),
-            Ask::Seal(value, under) => write!(f, "session {session} seals {value} under {under}"),
-            Ask::Unseal(label, value) => write!(f, "session {session} unseals {label}:{value}"),
-        }
-    }
-}
-
 #[derive(Drop)]
 pub enum Answer {
     Done,
     Sealed(Sealed<Rung>),
     Value(i32),
+    Rows(usize),
+    Key(u32),
+    Deleted(usize),
 }
 
 // Why a request has no answer: a number in it makes no label, or it is turned down.
@@ -69,7 +59,18 @@ impl From<Refusal<Rung>> for Fault as FaultFromRefusal {
     }
 }
 
-pub fn serve(sessions: &mut [Session<Rung>], request: Request) -> Result<Answer, Fault> {
+fn sealed(label: u64, value: i32) -> Result<Sealed<Rung>, UnlawfulLabel> {
+    Ok(Sealed::new(Rung::new(label)?, value))
+}
+
+// The host's side: the sessions, the table records, and places for what selections answer.
+pub fn serve(
+    sessions: &mut [Session<Rung>],
+    records: &[TableRecord<Rung>],
+    store: &mut Packed,
+    places: &mut [Place<Rung>],
+    request: Request,
+) -> Result<Answer, Fault> {
     let Request(session, ask) = request;
     match ask {
         Ask::Open(label, clearance) => {
@@ -88,45 +89,53 @@ pub fn serve(sessions: &mut [Session<Rung>], request: Request) -> Result<Answer,
             let sealed = sessions::seal(sessions, session, value, Rung::new(under)?)?;
             Ok(Answer::Sealed(sealed))
         }
-        Ask::Unseal(label, value) => {
-            let sealed = Sealed::new(Rung::new(label)?, value);
-            Ok(Answer::Value(sessions::unseal(sessions, session, sealed)?))
+        Ask::Unseal(label, value) => Ok(Answer::Value(
+            sessions::unseal(sessions, session, sealed(label, value)?)?,
+        )),
+        Ask::Select(table, predicate, room) => select(
+            sessions,
+            records,
+            store,
+            places,
+            session,
+            table,
+            predicate,
+            room,
+        ),
+        Ask::Insert(table, first, second) => {
+            let first = sealed(first.0, first.1)?;
+            let second = sealed(second.0, second.1)?;
+            Ok(Answer::Key(
+                tables::insert(sessions, records, store, session, table, first, second)?,
+            ))
         }
+        Ask::Delete(table, predicate) => Ok(Answer::Deleted(
+            tables::delete(sessions, records, store, session, table, predicate)?,
+        )),
     }
 }
 
-pub fn show_answer(heap: Global, answer: Result<Answer, Fault>) -> Result<String, AllocError> {
-    match answer {
-        Ok(Answer::Done) => format!(heap, "done"),
-        Ok(Answer::Sealed(sealed)) => {
-            let label = sealed.label();
-            let value = sealed.host_value();
-            format!(heap, "{label}:{value}")
-        }
-        Ok(Answer::Value(value)) => format!(heap, "{value}"),
-        Err(Fault::Label(e)) => {
-            let number = e.number();
-            format!(heap, "refused ({number}): {e}")
-        }
-        Err(Fault::Request(e)) => {
-            let number = e.number();
-            format!(heap, "refused ({number}): {e}")
-        }
-    }
-}
-
-// The session's label and clearance, or a minus sign where it is closed or missing.
-pub fn show_standing(
-    heap: Global,
-    sessions: &[Session<Rung>],
+// The first `room` places are lent, or all where there are fewer.
+fn select(
+    sessions: &mut [Session<Rung>],
+    records: &[TableRecord<Rung>],
+    store: &Packed,
+    places: &mut [Place<Rung>],
     session: usize,
-) -> Result<String, AllocError> {
-    if session < sessions.len()
-        && let Some(at) = sessions[session].standing()
-    {
-        let label = at.label().number();
-        let clearance = at.clearance().number();
-        return format!(heap, "{label:>5}  {clearance:>9}");
-    }
-    format!(heap, "{:>5}  {:>9}", "-", "-")
+    table: usize,
+    predicate: Predicate,
+    room: usize,
+) -> Result<Answer, Fault> {
+    let end = room.min(places.len());
+    Ok(Answer::Rows(
+        tables::select(
+            sessions,
+            records,
+            store,
+            session,
+            table,
+            predicate,
+            &mut places[0..end],
+        )?,
+    ))
 }
