@@ -17,6 +17,7 @@ held rs f = record { limit = length rs; given = f .given; rows = take (f .used) 
 abbrev pub part : List Row → Stretch → List Row
 part rows s = take (s .limit) (drop (s .from) rows)
 
+-- The table that a stretch holds.
 abbrev pub table-in : List Row → Stretch → Table
 table-in rows s = held (part rows s) (s .fill)
 
