@@ -44,9 +44,6 @@ module _ {L : Type 0} (k : Kind L) where
   entered-at s (Some at) t None e is there h = let z : _≡_ {A = ℕ} 0 1 = cc in absurd (omega arith)
   entered-at s (Some at) t (Some r) e is there h = entered-in s at t r (k .flows (r .first) (r .table)) e _ is there refl h
 
-  pub entered : (s : Session L) (rs : List (TableRecord L)) (ts : List Table) (n : ℕ) (e : Entry L) → Ok e ≡ on-table k s rs ts n Err enters → Entered s (record-of rs ts n) e
-  entered s rs ts n e h = entered-at s (s .standing) (record-of rs ts n) (record-of rs ts n) e refl refl h
-
   -- a raise that was not turned down
   pub record Raised (c d a : L) (s : Session L) : Type 0 where
     pub cleared : k .flows (k .join c a) d ≡ true
@@ -59,5 +56,15 @@ module _ {L : Type 0} (k : Kind L) where
   raised-by true c d a s t is h = record { cleared = is; session = ap (λ (o : Outcome L Unit). o .session) h }
   raised-by false c d a s t is h = let q = ap (λ (o : Outcome L Unit). o .answer) h in let z : _≡_ {A = ℕ} 0 1 = cc in absurd (omega arith)
 
-  pub raised : (s t : Session L) (c d a : L) → s .standing ≡ Some (record { label = c; clearance = d }) → done t ≡ raising k a s → Raised c d a t
-  raised s t c d a e h = raised-by (k .flows (k .join c a) d) c d a s t refl (h ∙ rw e)
+  raised-from : (s t : Session L) (c d a : L) → s .standing ≡ Some (record { label = c; clearance = d }) → done t ≡ raising k a s → Raised c d a t
+  raised-from s t c d a e h = raised-by (k .flows (k .join c a) d) c d a s t refl (h ∙ rw e)
+
+  -- the session was open, the table is there with a record in order, and the label was raised by the table's
+  pub record Raised-in (s t : Session L) (o : Option (TableRecord L)) (e : Entry L) : Type 0 where
+    pub entered : Entered s o e
+    pub raised : Raised (e .label) (entered .clearance) (e .«record» .table) t
+
+  pub raised-in : (s t : Session L) (rs : List (TableRecord L)) (ts : List Table) (n : ℕ) (e : Entry L) → Ok e ≡ on-table k s rs ts n Err enters → done t ≡ raising k (e .«record» .table) s → Raised-in s t (record-of rs ts n) e
+  raised-in s t rs ts n e h u =
+      let i = entered-at s (s .standing) (record-of rs ts n) (record-of rs ts n) e refl refl h in
+      record { entered = i; raised = raised-from s t (e .label) (i .clearance) (e .«record» .table) (i .standing) u }

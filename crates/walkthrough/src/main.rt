@@ -2,6 +2,8 @@
 // request answers and leaves, as the host sees it.
 mod play;
 mod show;
+#[cfg(test)]
+mod tests;
 
 use labels::Rung;
 use labels::RungLabel;
@@ -109,7 +111,7 @@ fn records() -> Result<[TableRecord<Rung>; 2], UnlawfulLabel> {
 fn print_rows(rt: &LibcRuntime, places: &[Place<Rung>], count: usize) -> Result<(), AnyError> {
     for place in places.iter().take(count) {
         let row = show_place(rt.alloc(), *place)?;
-        println!(rt, "    {row}")?;
+        println!(rt, "                    {row}")?;
     }
     Ok(())
 }
@@ -122,13 +124,13 @@ fn play_all(
     places: &mut [Place<Rung>],
     requests: &[Request],
 ) -> Result<(), AnyError> {
-    println!(rt, "label  clearance  request and answer")?;
+    println!(rt, "label  clearance  request -> answer")?;
     for request in requests {
         let asked = show_request(rt.alloc(), *request)?;
         let answer = serve(sessions, records, store, places, *request);
         let shown = show_answer(rt.alloc(), &answer)?;
         let standing = show_standing(rt.alloc(), sessions, request.0)?;
-        println!(rt, "{standing:<16}  {asked}: {shown}")?;
+        println!(rt, "{standing}  {asked} -> {shown}")?;
         if let Ok(Answer::Rows(count)) = answer {
             print_rows(rt, places, count)?;
         }
@@ -174,11 +176,11 @@ fn main(rt: LibcRuntime) -> Result<(), AnyError> {
     )?;
     println!(
         rt,
-        "\nThe sessions are opened anew, on two tables. Table 0: its rows count as 2, first fields as 1, second fields as their first field, limit 2."
+        "\nThen on two tables. Table 0: label 2, first fields 1, second fields by their first, limit 2."
     )?;
     println!(
         rt,
-        "Table 1: rows and first fields count as 0, second fields as 5, limit 1.\n"
+        "Table 1: label 0, first fields 0, second fields 5, limit 1.\n"
     )?;
     play_all(
         &rt,

@@ -106,9 +106,9 @@ pub fn show_standing(
     if session < sessions.len()
         && let Some(at) = sessions[session].standing()
     {
-        let label = at.label();
-        let clearance = at.clearance();
-        return format!(heap, "{label}       {clearance}");
+        let label = at.label().number();
+        let clearance = at.clearance().number();
+        return format!(heap, "{label:>5}  {clearance:>9}");
     }
-    format!(heap, "-       -")
+    format!(heap, "{:>5}  {:>9}", "-", "-")
 }
