@@ -16,7 +16,7 @@ use Rattle.tables.specs.declared.queries.Place.{Place}
 use Rattle.tables.specs.declared.queries.Predicate.{Predicate}
 use Rattle.tables.specs.declared.records.TableRecord.{TableRecord}
 use Rattle.tables.specs.Queries.{matches, matching, place}
-use Rattle.tables.specs.Steps.{filled}
+use Rattle.tables.specs.Outcomes.{filled}
 use Rattle.tables.specs.Fills.{filled-by}
 
 module _ {L : Type 0} (k : Kind L) where

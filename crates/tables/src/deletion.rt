@@ -1,7 +1,8 @@
 // Deleting rows.
 ghost use mathlib.Core.Path.{_≡_};
 ghost use Rattle.stores.specs.Changes.{changed};
-ghost use Rattle.tables.specs.Steps.{wrote, deleting-at, deleting, written, writing-on};
+ghost use Rattle.tables.specs.Outcomes.{wrote, written, writing-on};
+ghost use Rattle.tables.specs.Steps.{deleting-at, deleting};
 use crate::queries::Predicate;
 use crate::records::Entry;
 use crate::records::TableRecord;

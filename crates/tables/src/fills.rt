@@ -5,7 +5,7 @@ ghost use denote.Ref.{name};
 ghost use Rattle.std.specs.shelf.Lists.{folded};
 ghost use Rattle.stores.specs.Tables.{rows-in};
 ghost use Rattle.tables.specs.Queries.{matching, place as row-place};
-ghost use Rattle.tables.specs.Steps.{filled};
+ghost use Rattle.tables.specs.Outcomes.{filled};
 ghost use Rattle.tables.specs.Fills.{filled-by};
 use crate::places::Filling;
 use crate::queries::Place;

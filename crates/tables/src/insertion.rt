@@ -1,7 +1,8 @@
 // Inserting a row.
 ghost use mathlib.Core.Path.{_≡_};
 ghost use Rattle.stores.specs.Changes.{changed};
-ghost use Rattle.tables.specs.Steps.{wrote, inserting-at, inserting, written, writing-on};
+ghost use Rattle.tables.specs.Outcomes.{wrote, written, writing-on};
+ghost use Rattle.tables.specs.Steps.{inserting-at, inserting};
 use crate::records::Entry;
 use crate::records::TableRecord;
 use crate::records::enter;

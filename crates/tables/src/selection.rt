@@ -2,7 +2,8 @@
 ghost use mathlib.Core.Path.{_≡_};
 ghost use lib.ListN.{length};
 ghost use Rattle.sessions.specs.Steps.{outcome};
-ghost use Rattle.tables.specs.Steps.{looking, selected, filled-with, selecting, read, reading-on};
+ghost use Rattle.tables.specs.Outcomes.{selected, filled-with, read, reading-on};
+ghost use Rattle.tables.specs.Steps.{looking, selecting};
 use crate::fills::fill;
 use crate::queries::Place;
 use crate::queries::Predicate;

@@ -2,7 +2,7 @@ use borrow.Author.Needs.{needs}
 use mathlib.Core.Path.{ap}
 use lib.ListN.{set}
 use Rattle.std.proofs.shelf.Maps.{nth-getD, nth-past}
-use Rattle.tables.specs.Steps.{Selected, read}
+use Rattle.tables.specs.Outcomes.{Selected, read}
 use Rattle.tables.proofs.selection.select.Needs as need
 
 pub returns-then-session-sessions : need.returns-then-session-sessions
