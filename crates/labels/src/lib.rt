@@ -7,6 +7,7 @@ ghost use Rattle.labels.specs.Rung.{rungs, Lawful, made};
 #[cfg(test)]
 mod tests;
 
+use std::error::Error;
 use std::fmt;
 
 // A kind of label: a lattice whose labels say who may learn of a value.
@@ -57,6 +58,8 @@ pub impl fmt::Display for UnlawfulLabel as UnlawfulLabelDisplay {
         f.write_str("label numbers unlawful")
     }
 }
+
+pub impl Error for UnlawfulLabel as UnlawfulLabelError {}
 
 // A rung label: a number from 0 to 7, which flows to every number that is not below it.
 #[derive(Clone, Copy, PartialEq, Eq, Debug)]

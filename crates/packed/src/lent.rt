@@ -1,4 +1,4 @@
-// The rows lent to a store. Of them the stretch of a table alone is handed on to be written.
+// The rows lent to a store. Only the stretch of one table is ever handed on to be written.
 ghost use mathlib.Core.Path.{_≡_};
 ghost use lib.ListN.{take};
 ghost use Rattle.std.specs.shelf.Lists.{folded};

@@ -124,7 +124,7 @@ pub impl<L: Label> fmt::Display for Refusal<L> as RefusalDisplay {
     }
 }
 
-// A session: closed, or open with a label and a clearance. It is no `Copy`, so an open one is never doubled.
+// A session: closed, or open with a label and a clearance. It is not `Copy`, so an open one is never doubled.
 #[derive(Drop)]
 pub struct Session<L> {
     standing: Option<Standing<L>>,

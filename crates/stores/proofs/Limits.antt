@@ -1,5 +1,5 @@
 -- No change of a store touches a limit. Assumes nothing.
-use mathlib.Core.Path.{_≡_, refl, _∙_, ap}
+use mathlib.Core.Path.{_≡_, refl, ap}
 use mathlib.Core.Bool.{Bool, true, false, cond}
 use mathlib.Core.List.{List, [], _∷_}
 use Prim.Native.Nat.{ℕ, zero, suc, _+_}
@@ -15,7 +15,7 @@ use Rattle.stores.specs.declared.rows.Row.{Row}
 use Rattle.stores.specs.declared.rows.Fate.{Fate}
 use Rattle.stores.specs.declared.rows.AddRefusal.{AddRefusal}
 use Rattle.stores.specs.declared.rows.AddRefusal.the-variants.{TableFull, KeysSpent}
-use Rattle.stores.specs.Tables.{Table, Same-limits, key-limit, row-at, rows-in}
+use Rattle.stores.specs.Tables.{Table, Same-limits, key-limit, row-at}
 use Rattle.stores.specs.Changes.{Changed, changed, grown, adding-to, adding, put-rows, rows-put, replacing-row, replacing, removing-row, removing, sweeping}
 
 set-limits : (ts : List Table) (n : ℕ) (t u : Table) → nth ts n ≡ Some t → u .limit ≡ t .limit → Same-limits ts (set ts n u)

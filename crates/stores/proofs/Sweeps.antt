@@ -2,7 +2,7 @@
 use mathlib.Core.Path.{_≡_, refl, sym, _∙_, ap}
 use mathlib.Core.Bool.{Bool}
 use mathlib.Core.List.{List, [], _∷_, _++_}
-use Prim.Native.Nat.{ℕ, zero, suc, _+_, _<_, _≤_}
+use Prim.Native.Nat.{ℕ, zero, suc, _+_, _<_}
 use native.Mathlib.Nat.{zero-add, add-comm}
 use native.Mathlib.Omega.{arith}
 use lib.IntN.{ℤ}
@@ -15,7 +15,7 @@ use Rattle.stores.specs.declared.rows.Row.{Row}
 use Rattle.stores.specs.declared.rows.Fate.{Fate}
 use Rattle.stores.specs.declared.rows.Fate.the-variants.{Keep, Rewrite, Remove}
 use Rattle.stores.specs.Tables.{Table, rows-of, rows-in, row-at}
-use Rattle.stores.specs.Changes.{Changed, changed, row, rows-put, without, replacing, removing, left-by, edited, touched}
+use Rattle.stores.specs.Changes.{Changed, changed, row, rows-put, without, replacing, removing, edited, touched}
 use Rattle.stores.proofs.Puts.{same-put, in-put, put-put}
 
 -- the first rows of a list up to and with the row at place k, whatever follows

@@ -11,7 +11,7 @@ use Rattle.std.specs.declared.option.Option.{Option}
 use Rattle.std.specs.declared.option.Option.the-variants.{Some, None}
 use Rattle.std.proofs.shelf.Lists.{drop-all}
 use Rattle.stores.specs.Tables.{Table, count-of, rows-of}
-use Rattle.stores.specs.Changes.{perhaps}
+use Rattle.stores.specs.Visits.{perhaps}
 
 -- the number of rows, 0 where there is no such table
 pub counted : (o : Option Table) → valueOr (count-of o) 0 ≡ length (rows-of o)

@@ -31,6 +31,7 @@ pub record Changed (A : Type 0) : Type 0 where
 abbrev pub changed : {A : Type 0} → A → List Table → Changed A
 changed a ts = record { answer = a; tables = ts }
 
+-- The row of a key and two values.
 abbrev pub row : ℕ → ℤ → ℤ → Row
 row key f s = record { key = key; first = f; second = s }
 
@@ -38,7 +39,6 @@ row key f s = record { key = key; first = f; second = s }
 abbrev pub grown : Table → ℤ → ℤ → Table
 grown t f s = record { limit = t .limit; given = t .given + 1; rows = t .rows ++ row (t .given + 1) f s ∷ [] }
 
--- Adding a row, or the first refusal that applies, which changes nothing.
 abbrev pub adding-to : Option Table → List Table → ℕ → ℤ → ℤ → Changed (Result ℕ AddRefusal)
 adding-to None ts n f s = changed (Err NoTable) ts
 adding-to (Some t) ts n f s =
@@ -46,25 +46,27 @@ adding-to (Some t) ts n f s =
     (cond (leb key-limit (t .given)) (changed (Err KeysSpent) ts)
     (changed (Ok (t .given + 1)) (set ts n (grown t f s))))
 
+-- Adding a row to the table of a number, or the first refusal that applies, which changes nothing.
 abbrev pub adding : List Table → ℕ → ℤ → ℤ → Changed (Result ℕ AddRefusal)
 adding ts n f s = adding-to (nth ts n) ts n f s
 
+-- A table with other rows.
 abbrev pub with-rows : Table → List Row → Table
 with-rows t rs = record { limit = t .limit; given = t .given; rows = rs }
 
--- Other rows in one table, which keeps its limit and the keys given; nothing where there is no such table.
 abbrev pub put-rows : Option Table → List Table → ℕ → List Row → List Table
 put-rows None ts n rs = ts
 put-rows (Some t) ts n rs = set ts n (with-rows t rs)
 
+-- Other rows in one table, which keeps its limit and the keys given; nothing changes where there is no such table.
 abbrev pub rows-put : List Table → ℕ → List Row → List Table
 rows-put ts n rs = put-rows (nth ts n) ts n rs
 
--- Replacing the values of the row at a place, which keeps its key; answers whether there is one.
 abbrev pub replacing-row : Option Row → List Table → ℕ → ℕ → ℤ → ℤ → Changed Bool
 replacing-row None ts n place f s = changed false ts
 replacing-row (Some r) ts n place f s = changed true (rows-put ts n (set (rows-in ts n) place (row (r .key) f s)))
 
+-- Replacing the values of the row at a place, which keeps its key; answers whether there is one.
 abbrev pub replacing : List Table → ℕ → ℕ → ℤ → ℤ → Changed Bool
 replacing ts n place f s = replacing-row (row-at ts n place) ts n place f s
 
@@ -72,11 +74,11 @@ replacing ts n place f s = replacing-row (row-at ts n place) ts n place f s
 abbrev pub without : List Row → ℕ → List Row
 without rs place = take place rs ++ drop (suc place) rs
 
--- Removing the row at a place; answers whether there is one.
 abbrev pub removing-row : Option Row → List Table → ℕ → ℕ → Changed Bool
 removing-row None ts n place = changed false ts
 removing-row (Some r) ts n place = changed true (rows-put ts n (without (rows-in ts n) place))
 
+-- Removing the row at a place; answers whether there is one.
 abbrev pub removing : List Table → ℕ → ℕ → Changed Bool
 removing ts n place = removing-row (row-at ts n place) ts n place
 
@@ -91,6 +93,7 @@ abbrev pub edited : (Row → Fate) → List Row → List Row
 edited fate [] = []
 edited fate (r ∷ rs) = left-by (fate r) r (edited fate rs)
 
+-- A row that is rewritten or removed counts.
 abbrev pub counts : Fate → ℕ
 counts Keep = 0
 counts (Rewrite f s) = 1
@@ -104,8 +107,3 @@ touched fate (r ∷ rs) = counts (fate r) + touched fate rs
 -- A pass over a table's rows; answers how many rows it rewrote or removed.
 abbrev pub sweeping : (Row → Fate) → List Table → ℕ → Changed ℕ
 sweeping fate ts n = changed (touched fate (rows-in ts n)) (rows-put ts n (edited fate (rows-in ts n)))
-
--- One more step of a walk, if there is a row.
-abbrev pub perhaps : {A B : Type 0} → (B → A → B) → B → Option A → B
-perhaps step a None = a
-perhaps step a (Some x) = step a x

@@ -24,7 +24,7 @@ abbrev pub Rising : ℕ → ℕ → List Row → Type 0
 Rising low high [] = Unit {0}
 Rising low high (r ∷ rs) = (low < r .key) × (r .key ≤ high) × Rising (r .key) high rs
 
--- The keys of a table rise from 1 to at most the keys given.
+-- At most a million keys are given in a table, and its keys rise strictly, between 1 and the number of keys given.
 pub record Sound-table (t : Table) : Type 0 where
   pub few : t .given ≤ key-limit
   pub keys : Rising 0 (t .given) (t .rows)
@@ -34,6 +34,7 @@ pub record Sound (ts : List Table) : Type 0 where
   pub few : length ts ≤ 65535
   pub tables : All Sound-table ts
 
+-- The limits of all tables.
 abbrev pub limits : List Table → List ℕ
 limits ts = map (λ t. t .limit) ts
 
@@ -41,19 +42,19 @@ limits ts = map (λ t. t .limit) ts
 abbrev pub Same-limits : List Table → List Table → Type 0
 Same-limits before after = limits after ≡ limits before
 
--- The number of a table's rows; none beyond the last table.
 abbrev pub count-of : Option Table → Option ℕ
 count-of None = None
 count-of (Some t) = Some (length (t .rows))
 
+-- The number of a table's rows; none beyond the last table.
 abbrev pub row-count : List Table → ℕ → Option ℕ
 row-count ts n = count-of (nth ts n)
 
--- A table's rows, no row beyond the last table.
 abbrev pub rows-of : Option Table → List Row
 rows-of None = []
 rows-of (Some t) = t .rows
 
+-- A table's rows; no row beyond the last table.
 abbrev pub rows-in : List Table → ℕ → List Row
 rows-in ts n = rows-of (nth ts n)
 

@@ -3,13 +3,14 @@ mod layout;
 mod plan;
 mod rows;
 mod store;
+#[cfg(test)]
+mod tests;
 mod visits;
 
 pub use plan::LayoutRefusal;
 pub use plan::LayoutRefusalDebug;
 pub use plan::LayoutRefusalDisplay;
-pub use plan::LayoutRefusalEq;
-pub use plan::LayoutRefusalPartialEq;
+pub use plan::LayoutRefusalError;
 pub use plan::Plan;
 pub use rows::AddRefusal;
 pub use rows::Fate;

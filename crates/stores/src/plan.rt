@@ -3,10 +3,11 @@ ghost use mathlib.Core.Path.{_≡_};
 ghost use Prim.Native.Nat.{_≤_};
 ghost use lib.ListN.{length, take};
 ghost use Rattle.std.specs.shelf.Lists.{sum};
+use std::error::Error;
 use std::fmt;
 
 // Limits that cannot be laid out.
-#[derive(Clone, Copy, PartialEq, Eq, Debug)]
+#[derive(Clone, Copy, Debug)]
 pub struct LayoutRefusal;
 
 impl LayoutRefusal {
@@ -23,12 +24,15 @@ pub impl fmt::Display for LayoutRefusal as LayoutRefusalDisplay {
     }
 }
 
+pub impl Error for LayoutRefusal as LayoutRefusalError {}
+
 // The limits of at most 8 tables, for exactly N lent rows: a store over a plan never lacks a row.
 #[derive(Clone, Copy)]
 pub struct Plan<const N: usize> {
     pub(crate) limits: [usize; 8],
     pub(crate) count: usize,
     ghost room: { length limits ≡ 8 },
+    ghost some: { 1 ≤ count },
     ghost few: { count ≤ 8 },
     ghost small: { sum (take count limits) ≤ 2048 },
     ghost fits: { sum (take count limits) ≤ N },

@@ -1,6 +1,6 @@
 // What is taken along over the rows of a table: a visitor that sees each, an editor that decides on each.
 ghost use mathlib.Core.Path.{_≡_};
-ghost use Rattle.stores.specs.Changes.{perhaps};
+ghost use Rattle.stores.specs.Visits.{perhaps};
 ghost use Rattle.stores.specs.declared.rows.Fate.{Fate};
 ghost use Rattle.stores.specs.declared.rows.Row.{Row};
 use crate::rows::Fate;

@@ -1,5 +1,5 @@
 -- A request on a table that passed the first tests, and the raise after them. Assumes nothing.
-use mathlib.Core.Path.{_≡_, refl, sym, ap, _∙_}
+use mathlib.Core.Path.{_≡_, refl, ap, _∙_}
 use mathlib.Core.Bool.{Bool, true, false, cond}
 use mathlib.Core.List.{List, [], _∷_}
 use Prim.Native.Nat.{ℕ}
@@ -12,7 +12,7 @@ use Rattle.labels.specs.Kind.{Kind}
 use Rattle.sessions.specs.declared.Session.{Session}
 use Rattle.sessions.specs.declared.Standing.{Standing}
 use Rattle.sessions.specs.declared.Refusal.{Refusal}
-use Rattle.sessions.specs.declared.Refusal.the-variants.{SessionClosed, NoTable, FirstAboveTable, AboveClearance}
+use Rattle.sessions.specs.declared.Refusal.the-variants.{FirstAboveTable, AboveClearance}
 use Rattle.sessions.specs.Refusals.{tests}
 use Rattle.sessions.specs.Steps.{Outcome, outcome, refused, if-open, open-session, raising}
 use Rattle.stores.specs.Tables.{Table}

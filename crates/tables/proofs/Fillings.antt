@@ -2,22 +2,20 @@
 use mathlib.Core.Path.{_≡_, refl, sym, ap, _∙_}
 use mathlib.Core.Bool.{Bool, true, false, cond, _&&_}
 use mathlib.Core.List.{List, [], _∷_, _++_, map, append-assoc}
-use Prim.Native.Nat.{ℕ, suc, _+_, _<_, _≤_}
+use Prim.Native.Nat.{_+_}
 use native.Mathlib.Omega.{arith}
 use lib.Dec.{ltb}
 use lib.ListN.{length, set, length-append}
 use borrow.Author.Tests.{ltb-true, ltb-false}
-use Rattle.std.specs.shelf.Lists.{folded, kept-by}
-use Rattle.std.proofs.shelf.Lists.{append-nil, length-push}
+use Rattle.std.specs.shelf.Lists.{folded}
+use Rattle.std.proofs.shelf.Lists.{length-push}
 use Rattle.labels.specs.Kind.{Kind}
 use Rattle.stores.specs.declared.rows.Row.{Row}
 use Rattle.tables.specs.declared.places.Filling.{Filling}
 use Rattle.tables.specs.declared.queries.Place.{Place}
-use Rattle.tables.specs.declared.queries.Predicate.{Predicate}
-use Rattle.tables.specs.declared.records.TableRecord.{TableRecord}
 use Rattle.tables.specs.Queries.{matches, matching, place}
 use Rattle.tables.specs.Outcomes.{filled}
-use Rattle.tables.specs.Fills.{filled-by}
+use Rattle.tables.specs.Fills.{put, filled-by}
 
 module _ {L : Type 0} (k : Kind L) where
   one-named : (b : Bool) (v w : Filling L) → w .places .name ≡ v .places .name → cond b w v .places .name ≡ v .places .name
@@ -36,16 +34,13 @@ module _ {L : Type 0} (k : Kind L) where
   filled-none [] = refl
   filled-none (x ∷ xs) = refl
 
-  abbrev put : Filling L → Row → Filling L
-  put v r = record { places = record { ptr = v .places .ptr; name = v .places .name; now = set (v .places .now) (v .next) (place k (v .«record» .now) r) }; next = v .next + 1; «record» = v .«record»; predicate = v .predicate }
-
   -- the places before the next one are filled, the others are left
   abbrev Fills : List Row → Type 0
   Fills rs = (v : Filling L) (done left : List (Place L)) → v .places .now ≡ done ++ left → v .next ≡ length done →
       folded (filled-by k) v rs .places .now ≡ done ++ filled (map (place k (v .«record» .now)) (matching (v .predicate) rs)) left
 
   one-filled : (r : Row) (rs : List Row) → Fills rs → (v : Filling L) (done left : List (Place L)) → v .places .now ≡ done ++ left → v .next ≡ length done → (b c : Bool) → ltb (v .next) (length (v .places .now)) ≡ c →
-      folded (filled-by k) (cond (b && c) (put v r) v) rs .places .now ≡ done ++ filled (map (place k (v .«record» .now)) (cond b (r ∷ matching (v .predicate) rs) (matching (v .predicate) rs))) left
+      folded (filled-by k) (cond (b && c) (put k v r) v) rs .places .now ≡ done ++ filled (map (place k (v .«record» .now)) (cond b (r ∷ matching (v .predicate) rs) (matching (v .predicate) rs))) left
   one-filled r rs ih v done left e n false c is = ih v done left e n
   one-filled r rs ih v done [] e n true false is = ih v done [] e n ∙ ap (λ zs. done ++ zs) (filled-none _)
   one-filled r rs ih v done [] e n true true is =
@@ -54,7 +49,7 @@ module _ {L : Type 0} (k : Kind L) where
       absurd (omega (arith, ltb-false _ _ is, n, ap length e, length-append done (y ∷ left)))
   one-filled r rs ih v done (y ∷ left) e n true true is =
       let x = place k (v .«record» .now) r in
-      ih (put v r) (done ++ x ∷ []) left (rw (e, n) (set-next done x y left)) (rw n (sym (length-push done x))) ∙ append-assoc done (x ∷ []) _
+      ih (put k v r) (done ++ x ∷ []) left (rw (e, n) (set-next done x y left)) (rw n (sym (length-push done x))) ∙ append-assoc done (x ∷ []) _
 
   fills : (rs : List Row) → Fills rs
   fills [] v done left e n = e

@@ -1,18 +1,15 @@
 -- What a walk or a pass makes of all rows. Assumes nothing.
-use mathlib.Core.Path.{_≡_, refl, sym, ap, _∙_}
+use mathlib.Core.Path.{_≡_, refl, ap}
 use mathlib.Core.Bool.{Bool, true, false, cond, not}
 use mathlib.Core.List.{List, [], _∷_}
 use Prim.Native.Nat.{ℕ, _+_, _-_, _^_, _<_, _≤_, min}
 use native.Mathlib.Omega.{arith}
 use lib.ListN.{length}
-use Rattle.std.specs.shelf.Lists.{folded, kept-by}
+use Rattle.std.specs.shelf.Lists.{folded}
 use Rattle.labels.specs.Kind.{Kind}
 use Rattle.stores.specs.declared.rows.Row.{Row}
-use Rattle.stores.specs.declared.rows.Fate.{Fate}
 use Rattle.stores.specs.declared.rows.Fate.the-variants.{Keep, Remove}
 use Rattle.stores.specs.Changes.{edited, touched, left-by, counts}
-use Rattle.tables.specs.declared.records.SecondRule.{SecondRule}
-use Rattle.tables.specs.declared.queries.Predicate.{Predicate}
 use Rattle.tables.specs.declared.scans.SecondLabels.{SecondLabels}
 use Rattle.tables.specs.declared.scans.Count.{Count}
 use Rattle.tables.specs.declared.scans.Removal.{Removal}

@@ -46,7 +46,7 @@ unwritten s ts e = wrote (Err e) s ts
 abbrev pub wrote-as : {L : Type 0} → Session L → Changed (Result ℕ (Refusal L)) → Wrote L
 wrote-as s o = wrote (o .answer) s (o .tables)
 
--- What adding a row answers, a refusal with the session's label.
+-- What adding a row answers, a refusal with the session's label. A missing table does not occur there: the tests before it found one.
 abbrev pub labelled : {L : Type 0} → L → Result ℕ AddRefusal → Result ℕ (Refusal L)
 labelled c (Ok key) = Ok key
 labelled c (Err NoTable) = Err (refusal.NoTable c)

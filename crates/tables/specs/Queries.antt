@@ -1,6 +1,6 @@
 -- Predicates, and the label of what they look at. Assumes nothing.
 use mathlib.Core.Bool.{Bool, true, _&&_, not}
-use mathlib.Core.List.{List, [], _∷_, map}
+use mathlib.Core.List.{List}
 use lib.IntN.{ℤ, pos}
 use lib.Signed.{leZ}
 use Rattle.std.specs.shelf.Lists.{kept-by, folded}
@@ -37,11 +37,11 @@ module _ {L : Type 0} (k : Kind L) where
   abbrev pub join-second : SecondRule L → L → Row → L
   join-second rule a r = k .join a (second-label k rule (r .first))
 
-  -- The join of the labels of all second fields of a table.
+  -- The labels of all second fields of a table, joined onto the lowest.
   abbrev pub seconds-label : SecondRule L → List Row → L
   seconds-label rule rs = folded (join-second rule) (k .lowest) rs
 
-  -- The label of what a query looks at: the lowest where no second range is given.
+  -- The label of what a query looks at: the lowest where no second range is given, otherwise that of all second fields.
   abbrev pub query-label : SecondRule L → Option Range → List Row → L
   query-label rule None rs = k .lowest
   query-label rule (Some range) rs = seconds-label rule rs

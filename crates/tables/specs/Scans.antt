@@ -10,11 +10,14 @@ use Rattle.tables.specs.declared.scans.Count.{Count}
 use Rattle.tables.specs.declared.scans.Removal.{Removal}
 use Rattle.tables.specs.Queries.{matches, join-second}
 
+-- The label of one more second field is joined.
 abbrev pub joined : {L : Type 0} → Kind L → SecondLabels L → Row → SecondLabels L
 joined k v r = record { rule = v .rule; label = join-second k (v .rule) (v .label) r }
 
+-- A matching row is counted.
 abbrev pub counted : Count → Row → Count
 counted v r = record { predicate = v .predicate; count = cond (matches (v .predicate) r) (min (v .count + 1) (2 ^ 64 - 1)) (v .count) }
 
+-- A matching row is removed, every other kept.
 abbrev pub removal : Removal → Row → Fate
 removal e r = cond (matches (e .predicate) r) Remove Keep

@@ -40,7 +40,7 @@ impl<'a, 'b, L: Label> Visit for Filling<'a, 'b, L> as FillingVisit {
     }
 }
 
-// The lender of the places knows them again after the walk.
+// A walk that fills places, with the fact that they are still those that were lent.
 fn pour<L: Label, S: Store>(store: &S, table: usize, filling: &mut Filling<L>)
     ensures after { λ _. ⌜ now (filling .exit) ≡ folded (filled-by (L·Label .kind)) (now (filling .entry)) (rows-in (S·Store .tables (now (store .entry))) table) ⌝ }
     ensures same { λ _. ⌜ name (now (filling .exit) .places) ≡ name (now (filling .entry) .places) ⌝ }

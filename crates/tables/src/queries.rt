@@ -1,6 +1,5 @@
 // Predicates over rows, and what a selection answers.
 ghost use mathlib.Core.Path.{_≡_};
-ghost use lib.IntN.{pos};
 ghost use Rattle.tables.specs.Queries.{holds as in-range, matches as matched};
 use sessions::Sealed;
 use sessions::SealedClone;

@@ -8,6 +8,7 @@ mod tests;
 use labels::Rung;
 use labels::RungLabel;
 use labels::UnlawfulLabel;
+use labels::UnlawfulLabelError;
 use packed::Packed;
 use play::Answer;
 use play::Ask;
@@ -20,6 +21,7 @@ use show::show_place;
 use show::show_request;
 use show::show_standing;
 use std::error::AnyError;
+use stores::LayoutRefusalError;
 use stores::Plan;
 use stores::Row;
 use tables::Place;
@@ -75,7 +77,7 @@ const ON_SESSIONS: [Request; 14] = [
     Request(2, Ask::Raise(1)),
 ];
 
-const ON_TABLES: [Request; 16] = [
+const ON_TABLES: [Request; 17] = [
     Request(0, Ask::Open(0, 7)),
     Request(1, Ask::Open(0, 3)),
     Request(0, Ask::Insert(0, (1, 4), (4, -250))),
@@ -91,6 +93,7 @@ const ON_TABLES: [Request; 16] = [
     Request(0, Ask::Insert(0, (1, 6), (3, -40))),
     Request(0, Ask::Insert(0, (1, 6), (3, -41))),
     Request(0, Ask::Select(0, MIDDLE_SECONDS, 4)),
+    Request(0, Ask::Select(0, ALL, 1)),
     Request(0, Ask::Insert(2, (0, 1), (0, 1))),
 ];
 
@@ -138,19 +141,14 @@ fn play_all(
     Ok(())
 }
 
-fn main(rt: LibcRuntime) -> Result<(), AnyError> {
+fn run(rt: &LibcRuntime) -> Result<(), AnyError> {
     let mut rows = [Row {
         key: 0,
         first: 0,
         second: 0,
     }; 3];
-    let Ok(records) = records() else {
-        return Err("a label of the table records is unlawful".into());
-    };
-    let Ok(plan) = Plan::of(&[2, 1]) else {
-        return Err("the store cannot be laid out".into());
-    };
-    let mut store = Packed::new(plan, &mut rows);
+    let records = records()?;
+    let mut store = Packed::new(Plan::of(&[2, 1])?, &mut rows);
     let nothing = Sealed::new(RungLabel::lowest(), 0);
     let mut places = [Place {
         key: 0,
@@ -167,7 +165,7 @@ fn main(rt: LibcRuntime) -> Result<(), AnyError> {
         "Two sessions, closed at first, whose labels rise as they read, under their clearances.\n"
     )?;
     play_all(
-        &rt,
+        rt,
         &mut sessions,
         &records,
         &mut store,
@@ -183,11 +181,15 @@ fn main(rt: LibcRuntime) -> Result<(), AnyError> {
         "Table 1: label 0, first fields 0, second fields 5, limit 1.\n"
     )?;
     play_all(
-        &rt,
+        rt,
         &mut sessions,
         &records,
         &mut store,
         &mut places,
         &ON_TABLES,
     )
+}
+
+fn main(rt: LibcRuntime) -> Result<(), AnyError> {
+    rt.report(run(&rt))
 }

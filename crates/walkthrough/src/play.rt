@@ -63,7 +63,7 @@ fn sealed(label: u64, value: i32) -> Result<Sealed<Rung>, UnlawfulLabel> {
     Ok(Sealed::new(Rung::new(label)?, value))
 }
 
-// The host's side: the sessions, the table records, and places for what selections answer.
+// The host's side: the sessions, the table records, the store, and places for what selections answer.
 pub fn serve(
     sessions: &mut [Session<Rung>],
     records: &[TableRecord<Rung>],

@@ -12,7 +12,6 @@ use sessions::Sealed;
 use sessions::Session;
 use std::alloc::AllocError;
 use std::alloc::Global;
-use std::fmt;
 use tables::Place;
 use tables::Predicate;
 use tables::Range;
@@ -46,7 +45,7 @@ pub fn show_request(heap: Global, request: Request) -> Result<String, AllocError
             let which = show_predicate(heap, predicate)?;
             format!(
                 heap,
-                "session {session} selects in {table}{which}; {room} places"
+                "session {session} selects in {table}{which}, places {room}"
             )
         }
         Ask::Insert(table, first, second) => {

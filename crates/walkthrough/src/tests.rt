@@ -151,11 +151,12 @@ fn plays(cases: &[Case]) -> Result<(), Fail> {
     plays_on(&mut store, cases)
 }
 
-const OPENING_RAISING_LOWERING: [Case; 26] = [
+const OPENING_RAISING_LOWERING: [Case; 27] = [
     (Request(3, Open(0, 7)), Refused(1, None), None),
     (Request(0, Open(3, 2)), Refused(5, None), None),
     (Request(0, Open(0, 8)), Refused(15, None), None),
     (Request(3, Raise(0)), Refused(1, None), None),
+    (Request(3, Raise(8)), Refused(15, None), None),
     (Request(0, Raise(0)), Refused(2, None), None),
     (Request(3, Lower(7)), Refused(1, None), None),
     (Request(0, Lower(7)), Refused(2, None), None),
@@ -224,6 +225,24 @@ const KEY_2: Predicate = Predicate {
     second: None,
 };
 
+const KEY_UP_TO_1: Predicate = Predicate {
+    key: Some(Range { low: -5, high: 1 }),
+    first: None,
+    second: None,
+};
+
+const FIRST_4_TO_6: Predicate = Predicate {
+    key: None,
+    first: Some(Range { low: 4, high: 6 }),
+    second: None,
+};
+
+const FIRST_4_OF_KEY_2: Predicate = Predicate {
+    key: Some(Range { low: 2, high: 2 }),
+    first: Some(Range { low: 4, high: 4 }),
+    second: None,
+};
+
 const FIRST_BACKWARDS: Predicate = Predicate {
     key: None,
     first: Some(Range { low: 5, high: 1 }),
@@ -245,7 +264,7 @@ const SECOND_BACKWARDS: Predicate = Predicate {
     second: Some(Range { low: 5, high: -5 }),
 };
 
-const SELECTING: [Case; 21] = [
+const SELECTING: [Case; 28] = [
     (Request(3, Select(0, ALL, 4)), Refused(1, None), None),
     (Request(2, Select(0, ALL, 4)), Refused(2, None), None),
     (Request(0, Open(0, 7)), Done, Some((0, 7))),
@@ -283,6 +302,16 @@ const SELECTING: [Case; 21] = [
         Some((2, 3)),
     ),
     (
+        Request(1, Select(0, LOW_SECONDS, 0)),
+        Refused(9, Some(2)),
+        Some((2, 3)),
+    ),
+    (
+        Request(1, Select(0, SECOND_BACKWARDS, 0)),
+        Refused(9, Some(2)),
+        Some((2, 3)),
+    ),
+    (
         Request(1, Select(0, ALL, 1)),
         Refused(14, Some(2)),
         Some((2, 3)),
@@ -300,6 +329,19 @@ const SELECTING: [Case; 21] = [
         Rows(0),
         Some((2, 3)),
     ),
+    (Request(1, Select(0, KEY_UP_TO_1, 4)), Rows(1), Some((2, 3))),
+    (
+        Request(1, Select(0, FIRST_4_OF_KEY_2, 4)),
+        Rows(0),
+        Some((2, 3)),
+    ),
+    (
+        Request(1, Select(0, FIRST_4_TO_6, 4)),
+        Rows(2),
+        Some((2, 3)),
+    ),
+    (Request(2, Open(0, 0)), Done, Some((0, 0))),
+    (Request(2, Select(1, LOW_SECONDS, 0)), Rows(0), Some((0, 0))),
     (
         Request(0, Select(0, LOW_SECONDS, 0)),
         Refused(14, Some(6)),
@@ -313,7 +355,7 @@ const SELECTING: [Case; 21] = [
     (Request(0, Select(1, LOW_SECONDS, 0)), Rows(0), Some((6, 7))),
 ];
 
-const INSERTING: [Case; 25] = [
+const INSERTING: [Case; 28] = [
     (
         Request(3, Insert(0, (0, 0), (0, 0))),
         Refused(1, None),
@@ -340,6 +382,11 @@ const INSERTING: [Case; 25] = [
         Refused(6, Some(3)),
         Some((3, 7)),
     ),
+    (
+        Request(0, Insert(0, (2, 4), (0, 0))),
+        Refused(6, Some(3)),
+        Some((3, 7)),
+    ),
     (Request(0, Open(0, 7)), Done, Some((0, 7))),
     (
         Request(0, Insert(0, (2, 4), (0, 9))),
@@ -350,6 +397,11 @@ const INSERTING: [Case; 25] = [
     (
         Request(0, Insert(0, (1, 4), (0, 0))),
         Refused(8, Some(0)),
+        Some((0, 1)),
+    ),
+    (
+        Request(0, Insert(0, (2, 4), (0, 0))),
+        Refused(7, Some(0)),
         Some((0, 1)),
     ),
     (Request(0, Open(0, 7)), Done, Some((0, 7))),
@@ -367,6 +419,11 @@ const INSERTING: [Case; 25] = [
     ),
     (
         Request(0, Insert(3, (0, 5), (5, 1))),
+        Refused(11, Some(3)),
+        Some((3, 7)),
+    ),
+    (
+        Request(0, Insert(3, (0, 1), (2, 1))),
         Refused(11, Some(3)),
         Some((3, 7)),
     ),
@@ -397,7 +454,7 @@ const INSERTING: [Case; 25] = [
     (Request(1, Insert(4, (0, 0), (2, 3))), Key(3), Some((1, 3))),
 ];
 
-const DELETING: [Case; 18] = [
+const DELETING: [Case; 21] = [
     (Request(3, Delete(0, ALL)), Refused(1, None), None),
     (Request(2, Delete(0, ALL)), Refused(2, None), None),
     (Request(0, Open(3, 7)), Done, Some((3, 7))),
@@ -435,6 +492,11 @@ const DELETING: [Case; 18] = [
         Some((2, 7)),
     ),
     (
+        Request(0, Delete(0, SECOND_BACKWARDS)),
+        Refused(10, Some(2)),
+        Some((2, 7)),
+    ),
+    (
         Request(0, Delete(0, FIRST_BACKWARDS)),
         Deleted(0),
         Some((2, 7)),
@@ -444,10 +506,27 @@ const DELETING: [Case; 18] = [
     (Request(0, Delete(0, ALL)), Deleted(2), Some((2, 7))),
     (Request(0, Delete(0, LOW_SECONDS)), Deleted(0), Some((2, 7))),
     (Request(0, Insert(0, (0, 2), (0, 10))), Key(4), Some((2, 7))),
+    (
+        Request(0, Insert(0, (0, 2), (0, -250))),
+        Key(5),
+        Some((2, 7)),
+    ),
+    (Request(0, Delete(0, LOW_SECONDS)), Deleted(1), Some((2, 7))),
 ];
 
-const KEYS_SPENT: [Case; 2] = [
+const KEYS_SPENT: [Case; 5] = [
     (Request(0, Open(0, 7)), Done, Some((0, 7))),
+    (
+        Request(0, Insert(0, (0, 0), (0, 0))),
+        Key(1000000),
+        Some((2, 7)),
+    ),
+    (
+        Request(0, Insert(0, (0, 0), (0, 0))),
+        Refused(12, Some(2)),
+        Some((2, 7)),
+    ),
+    (Request(0, Delete(0, ALL)), Deleted(1), Some((2, 7))),
     (
         Request(0, Insert(0, (0, 0), (0, 0))),
         Refused(13, Some(2)),
@@ -488,7 +567,7 @@ fn keys_spent() -> Result<(), Fail> {
         second: 0,
     }; 1];
     let mut store = Packed::new(Plan::of(&[1])?, &mut rows);
-    for _ in 0..1_000_000 {
+    for _ in 0..999_999 {
         let _ = store.add(0, 0, 0);
         let _ = store.remove(0, 0);
     }
@@ -520,4 +599,37 @@ fn later_places_are_untouched() -> Result<(), Fail> {
         (4, -250),
     )?;
     check_eq((places[1].key, places[1].second.host_value()), (99, -1))
+}
+
+#[test]
+fn a_table_without_a_record_is_missing() -> Result<(), Fail> {
+    let records = records()?;
+    let mut rows = [Row {
+        key: 0,
+        first: 0,
+        second: 0,
+    }; 2];
+    let mut store = Packed::new(Plan::of(&[1, 1])?, &mut rows);
+    let mut places = [place(); 1];
+    plays_each(
+        &mut [Session::closed()],
+        &records[0..1],
+        &mut store,
+        &mut places,
+        &[
+            (Request(0, Open(0, 7)), Done, Some((0, 7))),
+            (
+                Request(0, Select(1, ALL, 1)),
+                Refused(3, Some(0)),
+                Some((0, 7)),
+            ),
+            (Request(0, Insert(0, (0, 0), (0, 0))), Key(1), Some((2, 7))),
+            (
+                Request(0, Select(0, ALL, 0)),
+                Refused(14, Some(2)),
+                Some((2, 7)),
+            ),
+        ],
+    )?;
+    check_eq(places[0].key, 99)
 }
