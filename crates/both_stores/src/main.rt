@@ -1,5 +1,7 @@
 // Serves the same lists of requests on two monitors with rung labels, one over the packed store and one over the chained
 // store, and compares everything that they answer and leave.
+#![tactic(auto)]
+
 mod compare;
 mod draw;
 

@@ -4,7 +4,8 @@ use Rattle.std.proofs.Math.Logic.{∥∥₁_elim, ∥∥₁_prop}
 use Rattle.std.proofs.Math.Bridge.{le_prop}
 use Rattle.std.proofs.Common.{arith, length-take}
 use Rattle.std.specs.Coded.{coded_ℕ}
-use denote.Struct.Props.{≡_prop, three_prop}
+use denote.Struct.Props.{≡_prop}
+use Rattle.std.proofs.Props.{props}
 use denote.Struct.Record.{Done-prop}
 use Rattle.std.proofs.lemmas.List.{length-map}
 use Rattle.std.specs.List.{AllByRecursion as All}
@@ -18,7 +19,7 @@ use Rattle.chained.specs.Links.{table_in, tables_of, Lies, Laid}
 -- A fact in a ghost field is taken out of its truncation part by part, since each part has one proof at most.
 rising_prop : (low high : ℕ) (rs : List Row) → IsProp (Rising low high rs)
 rising_prop low high [] = Done-prop
-rising_prop low high (r ∷ rs) = three_prop le_prop le_prop (rising_prop r.key high rs)
+rising_prop low high (r ∷ rs) = hlevel (props, rising_prop r.key high rs)
 
 opened_lies : (cells : List Cell) (c : Chain) → ∥ Lies cells c ∥₁ → Lies cells c
 opened_lies cells c h = record {

@@ -1,4 +1,6 @@
 // A store whose tables are chains through one list of lent cells.
+#![tactic(auto)]
+
 mod chained;
 mod laying;
 mod lent;

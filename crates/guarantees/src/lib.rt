@@ -1,4 +1,6 @@
 // What an observer sees of a monitor, and what nobody learns above his label. Nothing here names a label kind or a store.
+#![tactic(auto)]
+
 mod comparison;
 mod views;
 

@@ -1,4 +1,6 @@
 // Label kinds: what a label kind promises; rung labels and consent labels.
+#![tactic(auto)]
+
 ghost use Rattle.std.specs.Prelude.{◌≡◌, true};
 ghost use Rattle.labels.specs.Kind.{Kind, Lattice, Keeps};
 ghost use Rattle.labels.specs.Rung.{rungs, Lawful, made};

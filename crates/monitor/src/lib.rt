@@ -1,4 +1,6 @@
 // The nine requests, and serving them, one or a whole list. Nothing here names a label kind or a store.
+#![tactic(auto)]
+
 mod requests;
 mod serving;
 

@@ -3,7 +3,7 @@ use Rattle.std.specs.Prelude.{ℕ, ◌+◌, ◌≤◌, List, [], ◌∷◌, map,
 use Rattle.std.proofs.Math.Logic.{∥∥₁_elim, ∥∥₁_prop}
 use Rattle.std.proofs.Math.Bridge.{le_prop}
 use Rattle.std.proofs.Common.{arith, length-take}
-use denote.Struct.Props.{three_prop}
+use Rattle.std.proofs.Props.{props}
 use denote.Struct.Record.{Done-prop}
 use Rattle.std.proofs.lemmas.List.{length-map}
 use Rattle.std.specs.List.{AllByRecursion as All}
@@ -15,7 +15,7 @@ use Rattle.packed.specs.Stretches.{table_in, tables_of, Lies, InOrder}
 -- A fact in a ghost field is taken out of its truncation part by part, since each part has one proof at most.
 rising_prop : (low high : ℕ) (rs : List Row) → IsProp (Rising low high rs)
 rising_prop low high [] = Done-prop
-rising_prop low high (r ∷ rs) = three_prop le_prop le_prop (rising_prop r.key high rs)
+rising_prop low high (r ∷ rs) = hlevel (props, rising_prop r.key high rs)
 
 opened_lies : (rows : List Row) (s : Stretch) → ∥ Lies rows s ∥₁ → Lies rows s
 opened_lies rows s h = record {

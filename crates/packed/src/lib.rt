@@ -1,4 +1,6 @@
 // A store whose tables each have a stretch of one list of lent rows.
+#![tactic(auto)]
+
 mod laying;
 mod lent;
 mod packed;

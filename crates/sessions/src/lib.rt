@@ -1,4 +1,6 @@
 // Sessions, whose label floats up under a clearance, and the five requests on them. Nothing here names a label kind.
+#![tactic(auto)]
+
 ghost use Rattle.std.specs.Prelude.{◌≡◌};
 ghost use Rattle.sessions.specs.Refusals.{number_of};
 ghost use Rattle.sessions.specs.Steps.{closed_session, sealed_value, outcome, opening, raising, lowering, sealing, unsealing, served, on_session};

@@ -1,6 +1,8 @@
 // One job on one store, for counting instructions: `store_costs packed walk 512 0` lays a store out, adds 512 rows and walks
 // over them. The jobs are lay, add, walk, and sweep: a pass that removes each row whose key has no bit of the last number, so
 // all for 0, every other one for 1, and none for 4294967295.
+#![tactic(auto)]
+
 ghost use Rattle.store_costs.specs.Jobs.{noted, masked};
 
 use anyhow::anyhow;

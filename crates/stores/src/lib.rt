@@ -1,4 +1,6 @@
 // What a store is: an interface whose meaning is a list of tables, and the layout of a store from the limits of its tables.
+#![tactic(auto)]
+
 mod layout;
 mod plan;
 mod rows;

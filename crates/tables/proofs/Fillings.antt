@@ -10,11 +10,11 @@ use Rattle.tables.specs.Outcomes.{filled}
 use Rattle.tables.specs.Fills.{put, filled_by}
 
 module _ {L : Type 0} (k : Kind L) where
-  one_named : (b : Bool) (v w : Filling L) → w.places.name ≡ v.places.name → (cond b w v).places.name ≡ v.places.name
+  one_named : (b : Bool) (v w : Filling L) → w.places.ghost_name ≡ v.places.ghost_name → (cond b w v).places.ghost_name ≡ v.places.ghost_name
   one_named true v w e = e
   one_named false v w e = refl
 
-  pub same_name : (rs : List Row) (v : Filling L) → (fold (filled_by k) v rs).places.name ≡ v.places.name
+  pub same_name : (rs : List Row) (v : Filling L) → (fold (filled_by k) v rs).places.ghost_name ≡ v.places.ghost_name
   same_name [] v = refl
   same_name (r ∷ rs) v = same_name rs (filled_by k v r) ∙ one_named (matches v.predicate r && ltb v.next (length v.places.now)) v _ refl
 

@@ -1,4 +1,6 @@
 // Table records, predicates, and the requests on tables. Nothing here names a label kind or a store.
+#![tactic(auto)]
+
 mod deletion;
 mod fills;
 mod insertion;

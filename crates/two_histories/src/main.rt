@@ -1,4 +1,6 @@
 // Plays two histories that differ above a label, and prints what an observer at that label sees of each: the same.
+#![tactic(auto)]
+
 mod histories;
 mod show;
 

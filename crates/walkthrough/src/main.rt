@@ -1,5 +1,7 @@
 // Plays two short runs of requests with rung labels, one on sessions alone and one on two tables, and prints what each
 // request answers and leaves, as the host sees it.
+#![tactic(auto)]
+
 mod play;
 mod show;
 #[cfg(test)]

@@ -1,4 +1,6 @@
 // Requests, answers and what sessions and rows hold, in words for a person. Nothing here names a label kind.
+#![tactic(auto)]
+
 use labels::Label;
 use monitor::{Answer, Ask, Request};
 use sessions::{Sealed, Standing};

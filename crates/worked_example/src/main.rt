@@ -1,5 +1,7 @@
 // Plays the worked example with rung labels, and prints what each request answers; then plays it with another value, and
 // prints what an observer sees of both; last plays a run with consent labels.
+#![tactic(auto)]
+
 mod consents;
 mod example;
 mod printing;

@@ -4,8 +4,8 @@ use Rattle.stores.specs.Plans.{limits_of}
 use Rattle.stores.proofs.Layouts.{sum_more, sum_front}
 use Rattle.chained.proofs.laying.sum_of_limits.Goals as goal
 
-pub overflow-add-sum : goal.overflow-add-sum
-overflow-add-sum g c = omega (arith, sum_front (limits_of c.args.plan.now) c.loop-table.table (omega arith), c.args.plan.now.small)
+pub overflow_add-sum : goal.overflow_add-sum
+overflow_add-sum g c = omega (arith, sum_front (limits_of c.args.plan.now) c.loop-table.table (omega arith), c.args.plan.now.small)
 
 pub loop-table-preserved : goal.loop-table-preserved
 loop-table-preserved g c = omega (arith, sum_more (limits_of c.args.plan.now) c.loop-table.table (omega arith))

@@ -5,8 +5,8 @@ use Rattle.guarantees.proofs.views.seen_record.Goals as goal
 pub returns-then-table-records : goal.returns-then-table-records
 returns-then-table-records g c = search (rules, slice_get_past)
 
-pub returns-then-flows-to : goal.returns-then-flows-to
-returns-then-flows-to g c = search (rules, slice_get_read)
+pub returns-then-flows_to : goal.returns-then-flows_to
+returns-then-flows_to g c = search (rules, slice_get_read)
 
-pub returns-else-flows-to : goal.returns-else-flows-to
-returns-else-flows-to g c = search (rules, slice_get_read)
+pub returns-else-flows_to : goal.returns-else-flows_to
+returns-else-flows_to g c = search (rules, slice_get_read)

@@ -7,4 +7,4 @@ pub returns-then-room-places : goal.returns-then-room-places
 returns-then-room-places g c = rw (lt-leb (room c.args.request.ask) (length c.args.places.now) (omega (arith, c.room.ensures)))
 
 pub returns : goal.returns
-returns g c = rw (le-leb (room c.args.request.ask) (length c.args.places.now) (omega (arith, c.room.ensures))) c.serve-from.ensures
+returns g c = rw (le-leb (room c.args.request.ask) (length c.args.places.now) (omega (arith, c.room.ensures))) c.serve_from.ensures

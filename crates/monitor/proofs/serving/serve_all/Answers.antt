@@ -9,4 +9,4 @@ pub returns-in-Some : goal.returns-in-Some
 returns-in-Some g c = rw (le-leb (length c.args.requests.now) (length c.args.events.now) c.if-requests-events.false, ← c.in-Some.ensures)
 
 pub returns : goal.returns
-returns g c = rw (le-leb (length c.args.requests.now) (length c.args.events.now) c.if-requests-events.false, ← c.in-default.ensures) c.serve-each.ensures
+returns g c = rw (le-leb (length c.args.requests.now) (length c.args.events.now) c.if-requests-events.false, ← c.in_default.ensures) c.serve_each.ensures

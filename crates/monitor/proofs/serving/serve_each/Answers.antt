@@ -13,19 +13,19 @@ loop-i-init g c = (omega arith, left_first g.L.Label.kind c.args.records.now (st
 fits : (g : given.Over) (c : After-room g) → c.loop-i.start + room c.index-requests-i.result.ask ≤ length c.loop-i.places
 fits g c = left_room g.L.Label.kind c.args.records.now c.loop-i.i c.loop-i.start (state c.loop-i.sessions (g.S.Store.tables c.loop-i.store)) c.args.requests.now c.loop-i.events c.loop-i.places _ c.loop-i.invariant.1 c.index-requests-i.result c.index-requests-i.is c.loop-i-test.true c.loop-i.invariant.0
 
-pub overflow-add-end : goal.overflow-add-end
-overflow-add-end g c = let h : c.loop-i.start + c.room.result ≤ length c.loop-i.places = omega (arith, fits g c, c.room.ensures) in search rules
+pub overflow_add-end : goal.overflow_add-end
+overflow_add-end g c = let h : c.loop-i.start + c.room.result ≤ length c.loop-i.places = omega (arith, fits g c, c.room.ensures) in search rules
 
-pub serve-from-answer-requires : goal.serve-from-answer-requires
-serve-from-answer-requires g c = fits g (goal.at.serve-from-answer-requires g c).After-room
+pub serve_from-answer-requires : goal.serve_from-answer-requires
+serve_from-answer-requires g c = fits g (goal.at.serve_from-answer-requires g c).After-room
 
 pub loop-i-preserved : goal.loop-i-preserved
 loop-i-preserved g c =
     let h = fits g (goal.at.loop-i-preserved g c).After-room in
-    let long : length c.serve-from-answer.new.places ≡ length c.loop-i.places = c.serve-from-answer.auto.places in (
+    let long : length c.serve_from-answer.new.places ≡ length c.loop-i.places = c.serve_from-answer.auto.places in (
       omega (arith, h, c.room.ensures, long),
       rw c.room.ensures (left_later g.L.Label.kind c.args.records.now c.loop-i.i c.loop-i.start (state c.loop-i.sessions (g.S.Store.tables c.loop-i.store)) c.args.requests.now c.loop-i.events c.loop-i.places _ c.loop-i.invariant.1 c.index-requests-i.result c.index-requests-i.is c.loop-i-test.true c.loop-i.invariant.0
-          c.serve-from-answer.result (state c.serve-from-answer.new.sessions (g.S.Store.tables c.serve-from-answer.new.store)) c.put.new.items c.serve-from-answer.new.places c.serve-from-answer.ensures (rw (← c.standing-before.ensures, ← c.standing-after.ensures) c.put.ensures) (omega (arith, c.loop-i.auto.events, c.requires.events)) long),
+          c.serve_from-answer.result (state c.serve_from-answer.new.sessions (g.S.Store.tables c.serve_from-answer.new.store)) c.put.new.items c.serve_from-answer.new.places c.serve_from-answer.ensures (rw (← c.standing-before.ensures, ← c.standing-after.ensures) c.put.ensures) (omega (arith, c.loop-i.auto.events, c.requires.events)) long),
     )
 
 pub returns : goal.returns

@@ -11,7 +11,7 @@ pub returns-in-Raise : goal.returns-in-Raise
 returns-in-Raise g c = rw (c.in-Raise.is, c.done-in-Raise.ensures) (session_turn c.args.sessions.now c.args.request.session _ _ c.raise.ensures)
 
 pub returns-in-LowerClearance : goal.returns-in-LowerClearance
-returns-in-LowerClearance g c = rw (c.in-LowerClearance.is, c.done-in-LowerClearance.ensures) (session_turn c.args.sessions.now c.args.request.session _ _ c.lower-clearance.ensures)
+returns-in-LowerClearance g c = rw (c.in-LowerClearance.is, c.done-in-LowerClearance.ensures) (session_turn c.args.sessions.now c.args.request.session _ _ c.lower_clearance.ensures)
 
 -- an i32 that a pattern binds is its bits
 pub returns-in-Seal : goal.returns-in-Seal

@@ -6,8 +6,8 @@ use Rattle.packed.specs.Stretches.{empty_stretches}
 use Rattle.packed.proofs.Layings.{empty_more}
 use Rattle.packed.proofs.laying.lay_out.Goals as goal
 
-pub overflow-add-from : goal.overflow-add-from
-overflow-add-from g c = omega (arith, sum_front (limits_of c.args.plan.now) c.loop-table.table (omega arith), c.args.plan.now.fits, g.N.fits)
+pub overflow_add-from : goal.overflow_add-from
+overflow_add-from g c = omega (arith, sum_front (limits_of c.args.plan.now) c.loop-table.table (omega arith), c.args.plan.now.fits, g.N.fits)
 
 pub loop-table-preserved : goal.loop-table-preserved
 loop-table-preserved g c =

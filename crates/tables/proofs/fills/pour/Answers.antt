@@ -7,5 +7,5 @@ use Rattle.tables.proofs.fills.pour.Goals as goal
 pub returns : goal.returns
 returns g c = record {
   after = c.walk.ensures;
-  same = ap (λ (v : Filling g.row.L.Denot). v.places.name) c.walk.ensures ∙ same_name g.L.Label.kind (rows_in (g.S.Store.tables c.args.store.now) c.args.table) c.args.filling.now;
+  same = ap (λ (v : Filling g.row.L.Denot). v.places.ghost_name) c.walk.ensures ∙ same_name g.L.Label.kind (rows_in (g.S.Store.tables c.args.store.now) c.args.table) c.args.filling.now;
 }

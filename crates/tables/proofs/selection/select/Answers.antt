@@ -9,4 +9,4 @@ returns-then-session-sessions g c = search (rules, slice_get_past)
 pub returns : goal.returns
 returns g c =
     rw (slice_get-get_or c.args.sessions.now c.args.session c.index-sessions-session.result c.if-session-sessions.false)
-    (ap (λ (o : Selected g.row.L.Denot). read o.answer (set c.args.sessions.now c.args.session o.session) o.places) c.select-on.ensures)
+    (ap (λ (o : Selected g.row.L.Denot). read o.answer (set c.args.sessions.now c.args.session o.session) o.places) c.select_on.ensures)

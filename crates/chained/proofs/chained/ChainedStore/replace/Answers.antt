@@ -13,11 +13,11 @@ returns-then-table-self c =
 pub replace-requires : goal.replace-requires
 replace-requires c = linked_there c.args.self.now c.args.table c.if-table-self.false
 
-pub invariant-of-self : goal.invariant-of-self
-invariant-of-self c =
+pub invariant_of-self : goal.invariant_of-self
+invariant_of-self c =
     let p = c.args.self.now in
     let l = laid_anew p c.args.table c.if-table-self.false _ (replacing_local c.args.place c.args.first c.args.second) _ _ _ (simp (to_z-of_z c.ranges.first, to_z-of_z c.ranges.second) at c.replace.ensures) in
-    (p.room, (p.few, (∣ subst (λ cs. Laid c.replace.new.self.cells.now p.free (take p.count cs)) (same_chains p c.args.table) l ∣₁, tt)))
+    record { room = p.room; few = p.few; laid = ∣ subst (λ cs. Laid c.replace.new.self.cells.now p.free (take p.count cs)) (same_chains p c.args.table) l ∣₁ }
 
 pub returns : goal.returns
 returns c =

@@ -14,8 +14,8 @@ returns-then-place-chain c = no_row c.args.self.now c.args.table c.if-table-self
 pub find-spot-requires : goal.find-spot-requires
 find-spot-requires c = record { inside = inside_there c.args.self.now c.args.table c.if-table-self.false; there = c.if-place-chain.false }
 
-pub offset-bounds-self-spot : goal.offset-bounds-self-spot
-offset-bounds-self-spot c = let h = here_there (linked_there c.args.self.now c.args.table c.if-table-self.false) c.if-place-chain.false c.find-spot.ensures in omega arith
+pub offset_bounds-self-spot : goal.offset_bounds-self-spot
+offset_bounds-self-spot c = let h = here_there (linked_there c.args.self.now c.args.table c.if-table-self.false) c.if-place-chain.false c.find-spot.ensures in omega arith
 
 pub bounds-self-spot : goal.bounds-self-spot
 bounds-self-spot c = here_there (linked_there c.args.self.now c.args.table c.if-table-self.false) c.if-place-chain.false c.find-spot.ensures

@@ -11,10 +11,10 @@ returns-then-table-self g c =
 pub sweep-answer-requires : goal.sweep-answer-requires
 sweep-answer-requires g c = linked_there c.args.self.now c.args.table c.if-table-self.false
 
-pub invariant-of-self : goal.invariant-of-self
-invariant-of-self g c =
+pub invariant_of-self : goal.invariant_of-self
+invariant_of-self g c =
     let l = laid_anew c.args.self.now c.args.table c.if-table-self.false _ (sweeping_local (g.E.Edit.decides c.args.editor.now)) _ _ _ c.sweep-answer.ensures in
-    (length-set _ _ _ ∙ c.args.self.now.room, (c.args.self.now.few, (∣ l ∣₁, tt)))
+    record { room = length-set _ _ _ ∙ c.args.self.now.room; few = c.args.self.now.few; laid = ∣ l ∣₁ }
 
 pub returns : goal.returns
 returns g c =

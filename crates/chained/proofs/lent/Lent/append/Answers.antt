@@ -3,20 +3,20 @@ use Rattle.chained.proofs.Writes.{led_long}
 use Rattle.chained.proofs.Appends.{new_there, last_there, appended}
 use Rattle.chained.proofs.lent.Lent.append.Goals as goal
 
-pub offset-bounds-self-cell : goal.offset-bounds-self-cell
-offset-bounds-self-cell c = let h = new_there c.requires.linked c.requires.room in omega arith
+pub offset_bounds-self-cell : goal.offset_bounds-self-cell
+offset_bounds-self-cell c = let h = new_there c.requires.linked c.requires.room in omega arith
 
 pub bounds-self-cell : goal.bounds-self-cell
 bounds-self-cell c = new_there c.requires.linked c.requires.room
 
-pub lead-on-head-requires : goal.lead-on-head-requires
-lead-on-head-requires c = last_there c.requires.linked c.requires.room
+pub lead_on-head-requires : goal.lead_on-head-requires
+lead_on-head-requires c = last_there c.requires.linked c.requires.room
 
-pub offset-bounds-self-cell-2 : goal.offset-bounds-self-cell-2
-offset-bounds-self-cell-2 c = let h = new_there c.requires.linked c.requires.room in omega arith
+pub offset_bounds-self-cell-2 : goal.offset_bounds-self-cell-2
+offset_bounds-self-cell-2 c = let h = new_there c.requires.linked c.requires.room in omega arith
 
 pub bounds-self-cell-2 : goal.bounds-self-cell-2
-bounds-self-cell-2 c = let h = new_there c.requires.linked c.requires.room in omega (arith, led_long c.lead-on-head.ensures)
+bounds-self-cell-2 c = let h = new_there c.requires.linked c.requires.room in omega (arith, led_long c.lead_on-head.ensures)
 
 pub returns : goal.returns
-returns c = appended c.requires.linked c.requires.room c.lead-on-head.ensures c.args.row
+returns c = appended c.requires.linked c.requires.room c.lead_on-head.ensures c.args.row

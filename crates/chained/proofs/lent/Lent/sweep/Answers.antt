@@ -8,8 +8,8 @@ use Rattle.chained.proofs.lent.Lent.sweep.Goals.{in-Keep, in-Rewrite, in-Remove}
 pub loop-turn-init : goal.loop-turn-init
 loop-turn-init g c = halfway_none c.requires
 
-pub offset-bounds-self-spot : goal.offset-bounds-self-spot
-offset-bounds-self-spot g c = let h = spot_there c.requires c.loop-turn.invariant (omega arith) in omega arith
+pub offset_bounds-self-spot : goal.offset_bounds-self-spot
+offset_bounds-self-spot g c = let h = spot_there c.requires c.loop-turn.invariant (omega arith) in omega arith
 
 pub bounds-self-spot : goal.bounds-self-spot
 bounds-self-spot g c = spot_there c.requires c.loop-turn.invariant (omega arith)

@@ -5,20 +5,20 @@ use Rattle.chained.proofs.Unlinks.{unlinked_by}
 use Rattle.chained.proofs.lent.Lent.unlink.Goals as goal
 use Rattle.chained.proofs.lent.Lent.unlink.Goals.{then-place-chain, else-place-chain}
 
-pub offset-bounds-self-spot : goal.offset-bounds-self-spot
-offset-bounds-self-spot c = let h = here_there c.requires.linked c.requires.there c.requires.found in omega arith
+pub offset_bounds-self-spot : goal.offset_bounds-self-spot
+offset_bounds-self-spot c = let h = here_there c.requires.linked c.requires.there c.requires.found in omega arith
 
 pub bounds-self-spot : goal.bounds-self-spot
 bounds-self-spot c = here_there c.requires.linked c.requires.there c.requires.found
 
-pub lead-on-head-requires : goal.lead-on-head-requires
-lead-on-head-requires c = before_there c.requires.linked c.requires.there c.requires.found
+pub lead_on-head-requires : goal.lead_on-head-requires
+lead_on-head-requires c = before_there c.requires.linked c.requires.there c.requires.found
 
 pub link-requires : goal.link-requires
-link-requires c = let h = here_there c.requires.linked c.requires.there c.requires.found in omega (arith, led_long c.lead-on-head.ensures)
+link-requires c = let h = here_there c.requires.linked c.requires.there c.requires.found in omega (arith, led_long c.lead_on-head.ensures)
 
 pub returns : goal.returns
 returns c =
     let lasts : ((c.args.place + 1 ≡ c.args.at.chain.count) × (c.if-place-chain.last ≡ c.args.spot.before)) ⊎ ((c.args.place + 1 ≡ c.args.at.chain.count → ⊥) × (c.if-place-chain.last ≡ c.args.at.chain.last)) =
     elim c.if-place-chain.branch [ then-place-chain w ↦ inl (w.if-place-chain.true, w.last-is) | else-place-chain w ↦ inr (w.if-place-chain.false, w.last-is) ] in
-    unlinked_by c.requires.linked c.requires.there c.requires.found c.lead-on-head.ensures lasts c.link.ensures
+    unlinked_by c.requires.linked c.requires.there c.requires.found c.lead_on-head.ensures lasts c.link.ensures

@@ -10,10 +10,10 @@ returns-then-table-self c = record { change = none_removing _ c.args.table (no_t
 pub remove-answer-requires : goal.remove-answer-requires
 remove-answer-requires c = lies_there c.args.self.now c.args.table c.if-table-self.false
 
-pub invariant-of-self : goal.invariant-of-self
-invariant-of-self c =
+pub invariant_of-self : goal.invariant_of-self
+invariant_of-self c =
     let o = order_after c.args.self.now c.args.table c.if-table-self.false _ (removing_local c.args.place) _ _ _ c.remove-answer.ensures in
-    (length-set _ _ _ ∙ c.args.self.now.room, (c.args.self.now.few, (∣ o ∣₁, tt)))
+    record { room = length-set _ _ _ ∙ c.args.self.now.room; few = c.args.self.now.few; order = ∣ o ∣₁ }
 
 pub returns : goal.returns
 returns c =

@@ -13,11 +13,11 @@ returns-then-table-self c =
 pub replace-requires : goal.replace-requires
 replace-requires c = lies_there c.args.self.now c.args.table c.if-table-self.false
 
-pub invariant-of-self : goal.invariant-of-self
-invariant-of-self c =
+pub invariant_of-self : goal.invariant_of-self
+invariant_of-self c =
     let p = c.args.self.now in
     let o = order_after p c.args.table c.if-table-self.false _ (replacing_local c.args.place c.args.first c.args.second) _ _ _ (simp (to_z-of_z c.ranges.first, to_z-of_z c.ranges.second) at c.replace.ensures) in
-    (p.room, (p.few, (∣ subst (λ ss. InOrder 0 c.replace.new.self.rows.now (take p.count ss)) (same_stretches p c.args.table) o ∣₁, tt)))
+    record { room = p.room; few = p.few; order = ∣ subst (λ ss. InOrder 0 c.replace.new.self.rows.now (take p.count ss)) (same_stretches p c.args.table) o ∣₁ }
 
 pub returns : goal.returns
 returns c =

@@ -10,11 +10,11 @@ returns-then-table-self c = sym (ap (λ o. slice_get (rows_of o) c.args.place) (
 pub returns-then-place-at : goal.returns-then-place-at
 returns-then-place-at c = no_row c.args.self.now c.args.table c.if-table-self.false c.args.place c.if-place-at.true
 
-pub overflow-add-index : goal.overflow-add-index
-overflow-add-index c = let l = lies_there c.args.self.now c.args.table c.if-table-self.false in omega arith
+pub overflow_add-index : goal.overflow_add-index
+overflow_add-index c = let l = lies_there c.args.self.now c.args.table c.if-table-self.false in omega arith
 
-pub offset-bounds-self-index : goal.offset-bounds-self-index
-offset-bounds-self-index c = let l = lies_there c.args.self.now c.args.table c.if-table-self.false in omega arith
+pub offset_bounds-self-index : goal.offset_bounds-self-index
+offset_bounds-self-index c = let l = lies_there c.args.self.now c.args.table c.if-table-self.false in omega arith
 
 pub bounds-self-index : goal.bounds-self-index
 bounds-self-index c = let l = lies_there c.args.self.now c.args.table c.if-table-self.false in omega arith

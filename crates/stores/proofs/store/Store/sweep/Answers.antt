@@ -14,16 +14,16 @@ count_is ts n count o e f = e ∙ ap (λ (o : Option ℕ). unwrap_or o 0) f ∙ 
 
 -- the row that is read next lies in the table
 within : (g : given.Over) (c : After-row g) → c.loop-place.place - 1 < length (rows_in (g.Self.Store.tables c.args.self.now) c.args.table)
-within g c = omega (arith, c.loop-place.invariant.0, count_is (g.Self.Store.tables c.args.self.now) c.args.table _ _ c.unwrap-or-count.ensures c.row-count.ensures)
+within g c = omega (arith, c.loop-place.invariant.0, count_is (g.Self.Store.tables c.args.self.now) c.args.table _ _ c.unwrap_or-count.ensures c.row_count.ensures)
 
 pub loop-place-init : goal.loop-place-init
-loop-place-init g c = (omega arith, passed_none _ _ _ _ (count_is (g.Self.Store.tables c.args.self.now) c.args.table _ _ c.unwrap-or-count.ensures c.row-count.ensures))
+loop-place-init g c = (omega arith, passed_none _ _ _ _ (count_is (g.Self.Store.tables c.args.self.now) c.args.table _ _ c.unwrap_or-count.ensures c.row_count.ensures))
 
-pub overflow-add-touched : goal.overflow-add-touched
-overflow-add-touched g c = omega (arith, c.loop-place.invariant.0)
+pub overflow_add-touched : goal.overflow_add-touched
+overflow_add-touched g c = omega (arith, c.loop-place.invariant.0)
 
-pub overflow-add-touched-in-Remove : goal.overflow-add-touched-in-Remove
-overflow-add-touched-in-Remove g c = omega (arith, c.loop-place.invariant.0)
+pub overflow_add-touched-in-Remove : goal.overflow_add-touched-in-Remove
+overflow_add-touched-in-Remove g c = omega (arith, c.loop-place.invariant.0)
 
 pub loop-place-preserved-in-Keep : goal.loop-place-preserved-in-Keep
 loop-place-preserved-in-Keep g c =
@@ -51,7 +51,7 @@ loop-place-preserved-in-Remove g c =
 pub loop-place-preserved : goal.loop-place-preserved
 loop-place-preserved g c =
     let h = within g (goal.at.loop-place-preserved g c).After-row in
-    absurd (no_gap (g.E.Edit.decides c.args.editor.now) (g.Self.Store.tables c.args.self.now) c.args.table c.loop-place.place _ (omega arith) h _ _ c.loop-place.invariant.1 c.in-default.ensures)
+    absurd (no_gap (g.E.Edit.decides c.args.editor.now) (g.Self.Store.tables c.args.self.now) c.args.table c.loop-place.place _ (omega arith) h _ _ c.loop-place.invariant.1 c.in_default.ensures)
 
 pub returns : goal.returns
 returns g c =
