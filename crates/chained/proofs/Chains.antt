@@ -1,6 +1,6 @@
 -- One chain is linked anew: the others, and the tables in them, stay as they were. Assumes nothing.
 use Rattle.std.proofs.Common.{◌≡◌, ℕ, zero, suc, ◌+◌, ◌≤◌, List, [], ◌∷◌, map, set, Some, sym, refl, ap, ◌∙◌, subst, arith}
-use Rattle.std.specs.List.{AllByRecursion as All, slice_get}
+use Rattle.std.specs.List.{AllByRecursion, slice_get}
 use Rattle.stores.specs.Tables.{SoundTable}
 use Rattle.chained.specs.declared.links.Cell.{Cell}
 use Rattle.chained.specs.declared.links.Chain.{Chain}
@@ -14,7 +14,7 @@ use Rattle.chained.proofs.Spots.{room_same}
 
 -- the chain at an index
 module _ (c : Chain) where
-  pub lies_at : (cells : List Cell) (cs : List Chain) (n : ℕ) → slice_get cs n ≡ Some c → All (Lies cells) cs → Lies cells c
+  pub lies_at : (cells : List Cell) (cs : List Chain) (n : ℕ) → slice_get cs n ≡ Some c → AllByRecursion (Lies cells) cs → Lies cells c
   lies_at cells [] n e a = let z : ◌≡◌ {A = ℕ} 0 1 = cc in absurd (omega arith)
   lies_at cells (x ∷ cs) zero e a = let same : x ≡ c = cc in subst (Lies cells) same a.0
   lies_at cells (x ∷ cs) (suc n) e a = lies_at cells cs n e a.1
@@ -36,11 +36,11 @@ module _ (c : Chain) where
     total_set (x ∷ cs) (suc n) d e = omega (arith, total_set cs n d e)
 
 -- no table has more rows than its limit
-counts_within : (cells : List Cell) (cs : List Chain) → All (Lies cells) cs → total (λ c. c.count) cs ≤ total (λ c. c.limit) cs
+counts_within : (cells : List Cell) (cs : List Chain) → AllByRecursion (Lies cells) cs → total (λ c. c.count) cs ≤ total (λ c. c.limit) cs
 counts_within cells [] a = omega arith
 counts_within cells (c ∷ cs) a = omega (arith, a.0.within, counts_within cells cs a.1)
 
-room_left : (cells : List Cell) (cs : List Chain) (n : ℕ) (c : Chain) → slice_get cs n ≡ Some c → All (Lies cells) cs → total (λ d. d.count) cs + c.limit ≤ total (λ d. d.limit) cs + c.count
+room_left : (cells : List Cell) (cs : List Chain) (n : ℕ) (c : Chain) → slice_get cs n ≡ Some c → AllByRecursion (Lies cells) cs → total (λ d. d.count) cs + c.limit ≤ total (λ d. d.limit) cs + c.count
 room_left cells [] n c e a = let z : ◌≡◌ {A = ℕ} 0 1 = cc in absurd (omega arith)
 room_left cells (x ∷ cs) zero c e a =
     let same : x ≡ c = cc in
@@ -83,7 +83,7 @@ module _ (before after : List Cell) (l m : Links) (r : Relinked l m before after
   abbrev is : List Chain → ℕ → ℕ
   is cs q = total (λ c. times q (used after c)) cs
 
-  others_still : (cs : List Chain) → ((q : ℕ) → was cs q + held before l q ≤ 1) → All (Lies before) cs → All (Lies after) cs × ((q : ℕ) → is cs q ≡ was cs q) × (map (table_in after) cs ≡ map (table_in before) cs)
+  others_still : (cs : List Chain) → ((q : ℕ) → was cs q + held before l q ≤ 1) → AllByRecursion (Lies before) cs → AllByRecursion (Lies after) cs × ((q : ℕ) → is cs q ≡ was cs q) × (map (table_in after) cs ≡ map (table_in before) cs)
   others_still [] o a = (tt, λ q. refl, refl)
   others_still (c ∷ cs) o a =
       let other : (q : ℕ) → times q (used before c) + held before l q ≤ 1 = λ q. omega (arith, o q) in
@@ -92,8 +92,8 @@ module _ (before after : List Cell) (l m : Links) (r : Relinked l m before after
 
   module _ (lies : Lies after m.chain) where
     -- the chain at an index linked anew
-    changed_at : (cs : List Chain) (n : ℕ) → slice_get cs n ≡ Some l.chain → ((q : ℕ) → times q (unused before l.free) + was cs q ≤ 1) → All (Lies before) cs →
-        All (Lies after) (set cs n m.chain) ×
+    changed_at : (cs : List Chain) (n : ℕ) → slice_get cs n ≡ Some l.chain → ((q : ℕ) → times q (unused before l.free) + was cs q ≤ 1) → AllByRecursion (Lies before) cs →
+        AllByRecursion (Lies after) (set cs n m.chain) ×
         ((q : ℕ) → is (set cs n m.chain) q + times q (used before l.chain) ≡ was cs q + times q (used after m.chain)) ×
         (map (table_in after) (set cs n m.chain) ≡ set (map (table_in before) cs) n (table_in after m.chain))
     changed_at [] n e o a = let z : ◌≡◌ {A = ℕ} 0 1 = cc in absurd (omega arith)

@@ -1,6 +1,6 @@
 -- Chains laid out from limits, and cells that are linked in their order. Assumes nothing.
 use Rattle.std.proofs.Common.{◌≡◌, ℕ, zero, suc, ◌+◌, ◌<◌, ◌≤◌, ltb, List, [], ◌∷◌, map, length, get_or, take, set, sum, refl, ap, ⊎_elim, arith}
-use Rattle.std.specs.List.{AllByRecursion as All}
+use Rattle.std.specs.List.{AllByRecursion}
 use Rattle.std.proofs.lemmas.List.{take_more, take_more_set, map_push}
 use Rattle.std.proofs.lemmas.List.Sums.{sum_by-cons}
 use Rattle.std.proofs.lemmas.Bool.{cases_eq, eq-eqb, ne_eqb, ltb-false, cond_both}
@@ -28,7 +28,7 @@ in_room cells n o h q =
 
 -- no row in any
 module _ (cells : List Cell) where
-  empty_lies : (ls : List ℕ) → All (Lies cells) (map empty_chain ls)
+  empty_lies : (ls : List ℕ) → AllByRecursion (Lies cells) (map empty_chain ls)
   empty_lies [] = tt
   empty_lies (l ∷ ls) = (record { ends = λ k e. absurd (omega arith); within = omega arith; sound = record { few = omega arith; keys = tt } }, empty_lies ls)
 

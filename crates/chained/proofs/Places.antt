@@ -1,6 +1,6 @@
 -- Chains of cells, as lists of numbers. Assumes nothing.
 use Rattle.std.proofs.Common.{◌≡◌, ℕ, zero, suc, ◌+◌, ◌<◌, ◌≤◌, Bool, true, false, cond, ltb, List, [], ◌∷◌, ◌++◌, length, get_or, take, drop, refl, ap, subst, add-one, arith}
-use Rattle.std.specs.List.{AllByRecursion as All}
+use Rattle.std.specs.List.{AllByRecursion}
 use Rattle.std.proofs.ByRecursion.{All-get_or}
 use Rattle.std.proofs.lemmas.Bool.{eq-eqb, ltb-true, cond_both}
 use Rattle.chained.specs.declared.links.Cell.{Cell}
@@ -58,7 +58,7 @@ module _ (cells : List Cell) (p n : ℕ) where
       first (suc m) h = refl
 
   module _ {k : ℕ} {s : Spot} (h : k < n) (f : Found (places cells p n) k s) where
-    pub found_there : All (λ q. q < length cells) (places cells p n) → s.here < length cells
+    pub found_there : AllByRecursion (λ q. q < length cells) (places cells p n) → s.here < length cells
     found_there inside = subst (λ q. q < length cells) f.here (All-get_or (λ q. q < length cells) (places cells p n) k 0 (omega (arith, length_places cells p n)) inside)
 
     pub found_next : k + 1 < n → Found (places cells p n) (k + 1) (record { before = s.here; here = (cell_at cells s.here).next })

@@ -1,6 +1,6 @@
 -- How tables lie in the cells lent: each is a chain of cells, and the free cells are one more. Assumes nothing.
 use Rattle.std.specs.Prelude.{◌≡◌, ℕ, zero, suc, ◌+◌, ◌≤◌, cond, List, [], ◌∷◌, map, length, take, pos, ◌==◌, nat_lt, slice_index, slice_index_or}
-use Rattle.std.specs.List.{AllByRecursion as All}
+use Rattle.std.specs.List.{AllByRecursion}
 use Rattle.stores.specs.declared.rows.Row.{Row}
 use Rattle.stores.specs.Tables.{Table, SoundTable}
 use Rattle.chained.specs.declared.links.Cell.{Cell}
@@ -70,7 +70,7 @@ pub record Lies (cells : List Cell) (c : Chain) : Type 0 where
 
 -- Each chain lies so. No cell is in two of them, or twice in one; as many are free as the tables may still take; and all limits come to at most 2,048.
 pub record Laid (cells : List Cell) (free : Free) (cs : List Chain) : Type 0 where
-  pub each : All (Lies cells) cs
+  pub each : AllByRecursion (Lies cells) cs
   pub once : (q : ℕ) → times q (unused cells free) + total (λ c. times q (used cells c)) cs ≤ room cells q
   pub full : free.count + total (λ c. c.count) cs ≡ total (λ c. c.limit) cs
   pub small : total (λ c. c.limit) cs ≤ 2048

@@ -8,7 +8,7 @@ use denote.Struct.Props.{≡_prop}
 use Rattle.std.proofs.Props.{props}
 use denote.Struct.Record.{Done-prop}
 use Rattle.std.proofs.lemmas.List.{length-map}
-use Rattle.std.specs.List.{AllByRecursion as All}
+use Rattle.std.specs.List.{AllByRecursion}
 use Rattle.stores.specs.declared.rows.Row.{Row}
 use Rattle.stores.specs.Tables.{Rising, SoundTable, Sound}
 use Rattle.chained.specs.declared.links.Cell.{Cell}
@@ -28,7 +28,7 @@ opened_lies cells c h = record {
   sound = record { few = ∥∥₁_elim h le_prop (λ l. l.sound.few); keys = ∥∥₁_elim h (rising_prop _ _ _) (λ l. l.sound.keys) };
 }
 
-opened_each : (cells : List Cell) (cs : List Chain) → ∥ All (Lies cells) cs ∥₁ → All (Lies cells) cs
+opened_each : (cells : List Cell) (cs : List Chain) → ∥ AllByRecursion (Lies cells) cs ∥₁ → AllByRecursion (Lies cells) cs
 opened_each cells [] h = tt
 opened_each cells (c ∷ cs) h = (opened_lies cells c (∥∥₁_elim h ∥∥₁_prop (λ a. ∣ a.0 ∣₁)), opened_each cells cs (∥∥₁_elim h ∥∥₁_prop (λ a. ∣ a.1 ∣₁)))
 
@@ -40,7 +40,7 @@ opened cells free cs h = record {
   small = ∥∥₁_elim h le_prop (λ l. l.small);
 }
 
-sound_tables : (cells : List Cell) (cs : List Chain) → All (Lies cells) cs → All SoundTable (map (table_in cells) cs)
+sound_tables : (cells : List Cell) (cs : List Chain) → AllByRecursion (Lies cells) cs → AllByRecursion SoundTable (map (table_in cells) cs)
 sound_tables cells [] a = tt
 sound_tables cells (c ∷ cs) a = (a.0.sound, sound_tables cells cs a.1)
 

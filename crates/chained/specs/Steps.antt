@@ -1,6 +1,6 @@
 -- What the functions on lent cells do. Assumes nothing.
 use Rattle.std.specs.Prelude.{◌≡◌, ℕ, suc, ◌+◌, ◌<◌, ◌≤◌, List, [], ◌∷◌, ◌++◌, length, take, drop, ℤ, ◌≢◌, slice_index, slice_index_or, slice_set}
-use Rattle.std.specs.List.{AllByRecursion as All}
+use Rattle.std.specs.List.{AllByRecursion}
 use Rattle.stores.specs.declared.rows.Row.{Row}
 use Rattle.stores.specs.Tables.{Table}
 use Rattle.stores.specs.Changes.{Changed, changed, row, without}
@@ -32,7 +32,7 @@ pub record Linked (cells : List Cell) (l : Links) : Type 0 where
 
 -- Each link of a table leads to a cell.
 abbrev pub Inside : List Cell → Chain → Type 0
-Inside cells c = All (λ p. p < length cells) (used cells c)
+Inside cells c = AllByRecursion (λ p. p < length cells) (used cells c)
 
 -- Where the row at a place lies, by the cells of its table.
 pub record Found (ps : List ℕ) (place : ℕ) (s : Spot) : Type 0 where

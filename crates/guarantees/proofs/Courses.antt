@@ -1,6 +1,6 @@
 -- How sessions stand over a run. Assumes nothing.
 use Rattle.std.proofs.Common.{◌≡◌, ℕ, zero, suc, true, false, List, [], ◌∷◌, set, Some, None, Option, sym, refl, ap, ◌∙◌, inl, inr, arith}
-use Rattle.std.specs.List.{AllByRecursion as All, slice_get}
+use Rattle.std.specs.List.{AllByRecursion, slice_get}
 use Rattle.std.proofs.lemmas.Bool.{cases_Bool, cases_eq, true≢false}
 use Rattle.labels.specs.Kind.{Kind, Lattice}
 use Rattle.sessions.specs.declared.Standing.{Standing}
@@ -14,7 +14,7 @@ use Rattle.monitor.specs.declared.requests.Ask.TheVariants.{Open, Raise, LowerCl
 use Rattle.monitor.specs.declared.requests.Request.{Request}
 use Rattle.monitor.specs.Steps.{State, turn_by, asking, step, run}
 use Rattle.guarantees.specs.Compare.{New, opens}
-use Rattle.guarantees.specs.Course.{Stands, Goes_on, OpensAnew, NotOpened}
+use Rattle.guarantees.specs.Course.{Stands, GoesOn, OpensAnew, NotOpened}
 use Rattle.guarantees.proofs.Lists.{nth_set_other}
 use Rattle.guarantees.proofs.Chains.{cond_all}
 use Rattle.guarantees.proofs.Asks.{ask_steady}
@@ -74,7 +74,7 @@ module _ {L : Type 0} (k : Kind L) (laws : Lattice k) (rs : List (TableRecord L)
   run_cleared w [] f = f
   run_cleared w (u ∷ us) f = run_cleared (step k rs w u).after us (turn_cleared w u (slice_get w.sessions u.session) refl f)
 
-  closed_cleared : (ss : List (Session L)) → All (λ s. s ≡ closed_session) ss → (i : ℕ) (s : Session L) → slice_get ss i ≡ Some s → Cleared s.standing
+  closed_cleared : (ss : List (Session L)) → AllByRecursion (λ s. s ≡ closed_session) ss → (i : ℕ) (s : Session L) → slice_get ss i ≡ Some s → Cleared s.standing
   closed_cleared [] f i s e at g = let z : ◌≡◌ {A = ℕ} 0 1 = cc in absurd (omega arith)
   closed_cleared (q ∷ ss) f zero s e at g =
       let h : ◌≡◌ {A = Option (Standing L)} None (Some at) = ap (λ (y : Session L). y.standing) (sym f.0 ∙ some_same e) ∙ g in
@@ -128,7 +128,7 @@ module _ {L : Type 0} (k : Kind L) (laws : Lattice k) (rs : List (TableRecord L)
       let p = run_on (step k rs w u).after us i o.0 o.1 o.2 h.1 in
       (p.0, p.1, p.2, laws.transitive _ _ _ o.3 p.3, laws.transitive _ _ _ p.4 o.4)
 
-  pub goes_on : (w : State L) → New w → (us vs : List (Request L)) (i : ℕ) (c d : L) → Stands (run k rs w us) i c d → NotOpened k rs (run k rs w us) vs i → Goes_on k (run k rs (run k rs w us) vs) i c d
+  pub goes_on : (w : State L) → New w → (us vs : List (Request L)) (i : ℕ) (c d : L) → Stands (run k rs w us) i c d → NotOpened k rs (run k rs w us) vs i → GoesOn k (run k rs (run k rs w us) vs) i c d
   goes_on w f us vs i c d e h =
       let o = run_on (run k rs w us) vs i c d e h in
       let cleared = run_cleared (run k rs w us) vs (run_cleared w us (closed_cleared w.sessions f.sessions)) in

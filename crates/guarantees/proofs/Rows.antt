@@ -1,6 +1,6 @@
 -- Rows blanked at x. Assumes nothing.
 use Rattle.std.proofs.Common.{◌≡◌, ℕ, Bool, true, ◌&&◌, List, [], ◌∷◌, ◌++◌, map, ℤ, pos, Some, None, fold, filter, Option, sym, refl, ap, ◌∙◌, inl, inr}
-use Rattle.std.specs.List.{AllByRecursion as All}
+use Rattle.std.specs.List.{AllByRecursion}
 use Rattle.std.proofs.lemmas.Bool.{cases_Bool, cond-true, cond-false}
 use Rattle.labels.specs.Kind.{Kind, Lattice}
 use Rattle.stores.specs.declared.rows.Row.{Row}
@@ -14,13 +14,13 @@ use Rattle.guarantees.specs.Blanking.{blank_value, blank_row, blank_place}
 use Rattle.guarantees.proofs.Chains.{cond_pair, left_below, right_below}
 
 -- what passes a test is kept, where the test does not see the change
-pub kept_map : {A : Type 0} (p : A → Bool) (f : A → A) (xs : List A) → All (λ a. p (f a) ≡ p a) xs → filter p (map f xs) ≡ map f (filter p xs)
+pub kept_map : {A : Type 0} (p : A → Bool) (f : A → A) (xs : List A) → AllByRecursion (λ a. p (f a) ≡ p a) xs → filter p (map f xs) ≡ map f (filter p xs)
 kept_map p f [] h = refl
 kept_map p f (x ∷ xs) h =
     let ih = kept_map p f xs h.1 in
     rw h.0 (cond_pair (λ a b. a ≡ map f b) (p x) (λ _. ap {B = List _} (λ zs. f x ∷ zs) ih) (λ _. ih))
 
-pub all_map : {A : Type 0} {P Q : A → Type 0} → ((a : A) → P a → Q a) → (xs : List A) → All P xs → All Q xs
+pub all_map : {A : Type 0} {P Q : A → Type 0} → ((a : A) → P a → Q a) → (xs : List A) → AllByRecursion P xs → AllByRecursion Q xs
 all_map f [] h = tt
 all_map f (x ∷ xs) h = (f x h.0, all_map f xs h.1)
 
@@ -71,23 +71,23 @@ module _ {L : Type 0} (k : Kind L) (laws : Lattice k) (x : L) where
     abbrev Unseen : Predicate → Row → Type 0
     Unseen p v = matches p (B v) ≡ matches p v
 
-    seconds_below : (p : Predicate) (range : Range) → p.second ≡ Some range → (q : L) (vs : List Row) → k.flows (fold (join_second k r.second) q vs) x ≡ true → All (Unseen p) vs
+    seconds_below : (p : Predicate) (range : Range) → p.second ≡ Some range → (q : L) (vs : List Row) → k.flows (fold (join_second k r.second) q vs) x ≡ true → AllByRecursion (Unseen p) vs
     seconds_below p range e q [] h = tt
     seconds_below p range e q (v ∷ vs) h = (
       ap (λ (z : ℤ). holds p.key (pos v.key) && (holds p.first v.first && holds p.second z)) (value_low _ _ (right_below k laws (start_below _ vs h))),
       seconds_below p range e (k.join q (S v.first)) vs h,
     )
 
-    no_seconds : (p : Predicate) → p.second ≡ None → (vs : List Row) → All (Unseen p) vs
+    no_seconds : (p : Predicate) → p.second ≡ None → (vs : List Row) → AllByRecursion (Unseen p) vs
     no_seconds p e [] = tt
     no_seconds p e (v ∷ vs) = (rw e, no_seconds p e vs)
 
-    matches_by : (p : Predicate) (o : Option Range) → p.second ≡ o → (vs : List Row) → k.flows (query_label k r.second o vs) x ≡ true → All (Unseen p) vs
+    matches_by : (p : Predicate) (o : Option Range) → p.second ≡ o → (vs : List Row) → k.flows (query_label k r.second o vs) x ≡ true → AllByRecursion (Unseen p) vs
     matches_by p None e vs h = no_seconds p e vs
     matches_by p (Some range) e vs h = seconds_below p range e k.lowest vs h
 
     -- where the query's label flows to x, a row matches as its blanked one does
-    pub matches_same : (p : Predicate) (vs : List Row) → k.flows (query_label k r.second p.second vs) x ≡ true → All (Unseen p) vs
+    pub matches_same : (p : Predicate) (vs : List Row) → k.flows (query_label k r.second p.second vs) x ≡ true → AllByRecursion (Unseen p) vs
     matches_same p vs h = matches_by p p.second refl vs h
 
     pub places_same : (vs : List Row) → map (blank_place k x) (map (place k r) vs) ≡ map (blank_place k x) (map (place k r) (map B vs))
@@ -95,7 +95,7 @@ module _ {L : Type 0} (k : Kind L) (laws : Lattice k) (x : L) where
     places_same (v ∷ vs) = cc (value_again (S v.first) (S v.first) v.second (laws.reflexive (S v.first)), places_same vs)
 
     -- matching rows written over, their second value blanked under what flows to its label
-    pub rewritten_same : (p : Predicate) (f g : ℤ) (a : L) → k.flows a (S f) ≡ true → (vs : List Row) → All (Unseen p) vs →
+    pub rewritten_same : (p : Predicate) (f g : ℤ) (a : L) → k.flows a (S f) ≡ true → (vs : List Row) → AllByRecursion (Unseen p) vs →
         map B (map (rewritten p f g) vs) ≡ map B (map (rewritten p f (blank_value k x a g)) (map B vs))
     rewritten_same p f g a e [] h = refl
     rewritten_same p f g a e (v ∷ vs) h =

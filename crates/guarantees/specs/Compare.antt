@@ -1,6 +1,6 @@
 -- Two monitors compared by what an observer at the label x sees. Assumes nothing.
 use Rattle.std.specs.Prelude.{◌≡◌, Bool, true, false, cond, ◌||◌, List, [], ◌∷◌, length, Some, None, Option}
-use Rattle.std.specs.List.{AllByRecursion as All}
+use Rattle.std.specs.List.{AllByRecursion}
 use Rattle.labels.specs.Kind.{Kind}
 use Rattle.sessions.specs.declared.Standing.{Standing}
 use Rattle.sessions.specs.Steps.{closed_session}
@@ -18,8 +18,8 @@ use Rattle.guarantees.specs.Blanking.{blank_request, blank_answer, blank_reply, 
 
 -- A new monitor: every session is closed, and no table has a row or a key given.
 pub record New {L : Type 0} (w : State L) : Type 0 where
-  pub sessions : All (λ s. s ≡ closed_session) w.sessions
-  pub tables : All (λ t. (t.given ≡ 0) × (t.rows ≡ [])) w.tables
+  pub sessions : AllByRecursion (λ s. s ≡ closed_session) w.sessions
+  pub tables : AllByRecursion (λ t. (t.given ≡ 0) × (t.rows ≡ [])) w.tables
 
 -- As many sessions, and as many tables, each with the same limit.
 pub record Alike {L : Type 0} (v w : State L) : Type 0 where
@@ -68,15 +68,15 @@ module _ {L : Type 0} (k : Kind L) (x : L) where
     seen w (u ∷ us) = let o = step k rs w u in let rest = seen o.after us in cond (within w u) (seen_of u o ∷ rest) rest
 
 -- Two runs look the same to an observer at x: what he sees returned, and what he sees of the monitors at the end.
-pub record LookSame {L : Type 0} (k : Kind L) (rs : List (TableRecord L)) (x : L) (v : State L) (us : List (Request L)) (v-end : State L) (w : State L) (vs : List (Request L)) (w-end : State L) : Type 0 where
+pub record LookSame {L : Type 0} (k : Kind L) (rs : List (TableRecord L)) (x : L) (v : State L) (us : List (Request L)) (v_end : State L) (w : State L) (vs : List (Request L)) (w_end : State L) : Type 0 where
   pub returned : seen k x rs v us ≡ seen k x rs w vs
-  pub at_end : view_of k x rs v-end ≡ view_of k x rs w-end
+  pub at_end : view_of k x rs v_end ≡ view_of k x rs w_end
 
 module _ {L : Type 0} (k : Kind L) where
   -- Two runs on new monitors with the same records, limits and number of sessions look the same to an observer at any x if the requests within x are the same in both, once blanked.
   abbrev pub NobodyLearnsHere : List (TableRecord L) → (v : State L) → List (Request L) → State L → (w : State L) → List (Request L) → State L → Type 0
-  NobodyLearnsHere rs v us v-end w vs w-end = New v → New w → Alike v w →
-      (x : L) → asked k x rs v us ≡ asked k x rs w vs → LookSame k rs x v us v-end w vs w-end
+  NobodyLearnsHere rs v us v_end w vs w_end = New v → New w → Alike v w →
+      (x : L) → asked k x rs v us ≡ asked k x rs w vs → LookSame k rs x v us v_end w vs w_end
 
   -- Nobody learns what lies above his label: this holds of every two runs.
   abbrev pub NobodyLearnsAbove : Type 0

@@ -15,7 +15,7 @@ Stands w i c d = slice_get w.sessions i ≡ Some (open_session c d)
 
 module _ {L : Type 0} (k : Kind L) where
   -- Session i is open, its label has risen from c, its clearance has fallen from d, and the label flows to the clearance.
-  pub record Goes_on (w : State L) (i : ℕ) (c d : L) : Type 0 where
+  pub record GoesOn (w : State L) (i : ℕ) (c d : L) : Type 0 where
     pub label : L
     pub clearance : L
     pub stands : Stands w i label clearance
@@ -39,9 +39,9 @@ module _ {L : Type 0} (k : Kind L) where
   -- In every run of a new monitor, over any stretch of it in which a session that is open is not opened anew, the session stays open, its label rises, its clearance falls, and the label flows to the clearance.
   abbrev pub LabelsOnlyRise : Type 0
   LabelsOnlyRise = (rs : List (TableRecord L)) (w : State L) → New w → (us vs : List (Request L)) (i : ℕ) (c d : L) →
-      Stands (run k rs w us) i c d → NotOpened k rs (run k rs w us) vs i → Goes_on k (run k rs (run k rs w us) vs) i c d
+      Stands (run k rs w us) i c d → NotOpened k rs (run k rs w us) vs i → GoesOn k (run k rs (run k rs w us) vs) i c d
 
   -- The same of one run, wherever it is cut in two.
   abbrev pub LabelsRiseHere : List (TableRecord L) → State L → List (Request L) → State L → Type 0
-  LabelsRiseHere rs w ws w-end = New w → (us vs : List (Request L)) → ws ≡ us ++ vs → (i : ℕ) (c d : L) →
-      Stands (run k rs w us) i c d → NotOpened k rs (run k rs w us) vs i → Goes_on k w-end i c d
+  LabelsRiseHere rs w ws w_end = New w → (us vs : List (Request L)) → ws ≡ us ++ vs → (i : ℕ) (c d : L) →
+      Stands (run k rs w us) i c d → NotOpened k rs (run k rs w us) vs i → GoesOn k w_end i c d

@@ -1,8 +1,8 @@
 // What an observer at a label sees: everything else is blanked.
 ghost use Rattle.std.specs.Prelude.{◌≡◌};
 ghost use Rattle.std.specs.List.{slice_get};
-ghost use Rattle.guarantees.specs.Blanking.{blank_sealed, KeepsWhatIsSeen, blank_place, blank_answer, blank_ask, blank_request, blank_row, seen_record, view_session as session-view, view_tables, table_view, row_view};
-ghost use Rattle.guarantees.specs.Compare.{opens, low, view_event as event-view};
+ghost use Rattle.guarantees.specs.Blanking.{blank_sealed, KeepsWhatIsSeen, blank_place, blank_answer, blank_ask, blank_request, blank_row, seen_record, view_session as session_view, view_tables, table_view, row_view};
+ghost use Rattle.guarantees.specs.Compare.{opens, low, view_event as event_view};
 
 use labels::Label;
 use monitor::{Answer, Ask, Event, Request};
@@ -117,7 +117,7 @@ fn is_opening<L: Label>(ask: Ask<L>) -> bool
 // Nothing is seen of a request outside the observer's label; of one that leaves its session's label above, merely that it was
 // made.
 pub fn view_event<L: Label>(observer: L, ask: Ask<L>, event: Event<L>) -> EventView<L>
-    ensures { result ≡ event-view L.Label.kind observer ask event }
+    ensures { result ≡ event_view L.Label.kind observer ask event }
 {
     let within = is_opening(ask) || is_low(observer, event.before);
     if !within {
@@ -130,7 +130,7 @@ pub fn view_event<L: Label>(observer: L, ask: Ask<L>, event: Event<L>) -> EventV
 }
 
 pub fn view_session<L: Label>(observer: L, session: &Session<L>) -> SessionView<L>
-    ensures { result ≡ session-view L.Label.kind observer session.now }
+    ensures { result ≡ session_view L.Label.kind observer session.now }
 {
     match session.standing() {
         None => SessionView::Closed,

@@ -1,7 +1,7 @@
 // Serving requests: one, or a whole list. Buffers are tested first, so that a list is served as a whole or not at all.
 ghost use Rattle.std.specs.Prelude.{◌≡◌, ◌+◌, ◌<◌, ◌≤◌, length, None, Ok, slice_set};
 ghost use Rattle.std.specs.List.{slice_get};
-ghost use Rattle.monitor.specs.declared.requests.Answer.TheVariants.{Done, Sealed as Sealed-answer, Value, Filled, Key, Changed};
+ghost use Rattle.monitor.specs.declared.requests.Answer.TheVariants.{Done, Sealed as SealedAnswer, Value, Filled, Key, Changed};
 ghost use Rattle.monitor.specs.Replies.{answer_of};
 ghost use Rattle.monitor.specs.Steps.{state, step, standing_of};
 ghost use Rattle.monitor.specs.Lists.{room as room_of, short_of, single, answered, answered_from, listed, serving, serving_each, serving_all};
@@ -23,7 +23,7 @@ fn done<L: Label>(res: Result<(), Refusal<L>>) -> Answer<L>
 }
 
 fn sealed<L: Label>(res: Result<Sealed<L>, Refusal<L>>) -> Answer<L>
-    ensures { result ≡ answer_of Sealed-answer res }
+    ensures { result ≡ answer_of SealedAnswer res }
 {
     match res {
         Ok(sealed) => Answer::Sealed(sealed),

@@ -6,7 +6,7 @@ use Rattle.std.proofs.Common.{arith, length-take}
 use Rattle.std.proofs.Props.{props}
 use denote.Struct.Record.{Done-prop}
 use Rattle.std.proofs.lemmas.List.{length-map}
-use Rattle.std.specs.List.{AllByRecursion as All}
+use Rattle.std.specs.List.{AllByRecursion}
 use Rattle.stores.specs.declared.rows.Row.{Row}
 use Rattle.stores.specs.Tables.{Rising, SoundTable, Sound}
 use Rattle.packed.specs.declared.stretch.Stretch.{Stretch}
@@ -29,7 +29,7 @@ opened start rows [] h = tt
 opened start rows (s ∷ ss) h =
     (∥∥₁_elim h le_prop (λ o. o.0), opened_lies rows s (∥∥₁_elim h ∥∥₁_prop (λ o. ∣ o.1 ∣₁)), opened (s.from + s.limit) rows ss (∥∥₁_elim h ∥∥₁_prop (λ o. ∣ o.2 ∣₁)))
 
-sound_tables : (start : ℕ) (rows : List Row) (ss : List Stretch) → InOrder start rows ss → All SoundTable (map (table_in rows) ss)
+sound_tables : (start : ℕ) (rows : List Row) (ss : List Stretch) → InOrder start rows ss → AllByRecursion SoundTable (map (table_in rows) ss)
 sound_tables start rows [] o = tt
 sound_tables start rows (s ∷ ss) o = (o.1.sound, sound_tables (s.from + s.limit) rows ss o.2)
 

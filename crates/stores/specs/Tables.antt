@@ -1,6 +1,6 @@
 -- The meaning of a store: a list of tables. Assumes nothing.
 use Rattle.std.specs.Prelude.{◌≡◌, ℕ, ◌<◌, ◌≤◌, List, [], ◌∷◌, map, length, Some, None, Option}
-use Rattle.std.specs.List.{AllByRecursion as All, slice_get}
+use Rattle.std.specs.List.{AllByRecursion, slice_get}
 use Rattle.stores.specs.declared.rows.Row.{Row}
 
 -- A table: how many rows it may hold, how many keys were given in it so far, and its rows.
@@ -26,7 +26,7 @@ pub record SoundTable (t : Table) : Type 0 where
 -- What every store owes of its meaning: there are at most 65,535 tables, and each is sound.
 pub record Sound (ts : List Table) : Type 0 where
   pub few : length ts ≤ 65535
-  pub tables : All SoundTable ts
+  pub tables : AllByRecursion SoundTable ts
 
 -- The limits of all tables.
 abbrev pub limits : List Table → List ℕ

@@ -1,7 +1,7 @@
 // The walk that fills answer places.
 ghost use Rattle.std.specs.Prelude.{◌≡◌, map, fold};
 ghost use Rattle.stores.specs.Tables.{rows_in};
-ghost use Rattle.tables.specs.Queries.{matching, place as row-place};
+ghost use Rattle.tables.specs.Queries.{matching, place as row_place};
 ghost use Rattle.tables.specs.Outcomes.{filled};
 ghost use Rattle.tables.specs.Fills.{filled_by};
 
@@ -13,7 +13,7 @@ use sessions::Sealed;
 use stores::{Row, Store, Visit};
 
 fn place<L: Label>(record: TableRecord<L>, row: Row) -> Place<L>
-    ensures { result ≡ row-place L.Label.kind «record» row }
+    ensures { result ≡ row_place L.Label.kind «record» row }
 {
     Place {
         key: row.key,
@@ -50,7 +50,7 @@ pub fn fill<L: Label, S: Store>(
     predicate: Predicate,
     places: &mut [Place<L>],
 )
-    ensures { places.new ≡ filled (map (row-place L.Label.kind «record») (matching predicate (rows_in (S.Store.tables store.now) table))) places.old }
+    ensures { places.new ≡ filled (map (row_place L.Label.kind «record») (matching predicate (rows_in (S.Store.tables store.now) table))) places.old }
 {
     let mut filling = Filling {
         places,

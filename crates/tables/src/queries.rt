@@ -1,6 +1,6 @@
 // Predicates over rows, and what a selection answers.
 ghost use Rattle.std.specs.Prelude.{◌≡◌};
-ghost use Rattle.tables.specs.Queries.{holds as in-range, matches as matched};
+ghost use Rattle.tables.specs.Queries.{holds as in_range, matches as matched};
 
 use sessions::Sealed;
 use stores::Row;
@@ -29,7 +29,7 @@ pub struct Place<L> {
 }
 
 fn holds(range: Option<Range>, value: i64) -> bool
-    ensures { result ≡ in-range range value }
+    ensures { result ≡ in_range range value }
 {
     match range {
         None => true,

@@ -35,10 +35,10 @@ played rs v us hs es ps o e p a h = h ∙ (λ i. serving_all rungs (e i) (p i) (
 asked_same : asked rungs observer_label table_records start left_history ≡ asked rungs observer_label table_records start right_history
 asked_same = refl
 
-pub look_same : (rs : List (TableRecord Rung)) (v w v-end w-end : State Rung) (us vs : List (Request Rung)) →
+pub look_same : (rs : List (TableRecord Rung)) (v w v_end w_end : State Rung) (us vs : List (Request Rung)) →
     rs ≡ table_records → v ≡ start → w ≡ start → us ≡ left_history → vs ≡ right_history →
-    NobodyLearnsHere rungs rs v us v-end w vs w-end → HistoriesLookSame v-end w-end
-look_same rs v w v-end w-end us vs e p q a b promised =
-    let here : NobodyLearnsHere rungs table_records start left_history v-end start right_history w-end =
-    coe 0 1 (i. NobodyLearnsHere rungs (e i) (p i) (a i) v-end (q i) (b i) w-end) promised in
+    NobodyLearnsHere rungs rs v us v_end w vs w_end → HistoriesLookSame v_end w_end
+look_same rs v w v_end w_end us vs e p q a b promised =
+    let here : NobodyLearnsHere rungs table_records start left_history v_end start right_history w_end =
+    coe 0 1 (i. NobodyLearnsHere rungs (e i) (p i) (a i) v_end (q i) (b i) w_end) promised in
     here new_start new_start alike observer_label asked_same

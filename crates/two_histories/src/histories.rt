@@ -2,7 +2,7 @@
 ghost use Rattle.std.specs.Prelude.{◌≡◌, Ok};
 ghost use Rattle.labels.specs.Rung.{own};
 ghost use Rattle.sessions.specs.Steps.{sealed_value};
-ghost use Rattle.monitor.specs.declared.requests.Ask.TheVariants.{Open as Open-ask, Unseal as Unseal-ask, Select as Select-ask, Insert as Insert-ask, Delete as Delete-ask, Update as Update-ask};
+ghost use Rattle.monitor.specs.declared.requests.Ask.TheVariants.{Open as OpenAsk, Unseal as UnsealAsk, Select as SelectAsk, Insert as InsertAsk, Delete as DeleteAsk, Update as UpdateAsk};
 ghost use Rattle.monitor.specs.Steps.{state};
 ghost use Rattle.monitor.specs.Lists.{listed};
 ghost use Rattle.two_histories.specs.Histories.{observer_label, table_records, start, asks, left_history, right_history, playing, HistoriesLookSame};
@@ -83,7 +83,7 @@ fn sealed(value: (i32, i32)) -> Sealed<Rung>
 }
 
 fn open(session: usize, label: i32, clearance: i32) -> Request<Rung>
-    ensures { result ≡ asks session (Open-ask (own label) (own clearance)) }
+    ensures { result ≡ asks session (OpenAsk (own label) (own clearance)) }
 {
     Request {
         session,
@@ -92,7 +92,7 @@ fn open(session: usize, label: i32, clearance: i32) -> Request<Rung>
 }
 
 fn unseal(session: usize, value: (i32, i32)) -> Request<Rung>
-    ensures { result ≡ asks session (Unseal-ask (sealed_value (own value.0) value.1)) }
+    ensures { result ≡ asks session (UnsealAsk (sealed_value (own value.0) value.1)) }
 {
     Request {
         session,
@@ -101,7 +101,7 @@ fn unseal(session: usize, value: (i32, i32)) -> Request<Rung>
 }
 
 fn select(session: usize, table: usize, predicate: Predicate, places: usize) -> Request<Rung>
-    ensures { result ≡ asks session (Select-ask table predicate places) }
+    ensures { result ≡ asks session (SelectAsk table predicate places) }
 {
     Request {
         session,
@@ -110,7 +110,7 @@ fn select(session: usize, table: usize, predicate: Predicate, places: usize) -> 
 }
 
 fn insert(session: usize, table: usize, first: (i32, i32), second: (i32, i32)) -> Request<Rung>
-    ensures { result ≡ asks session (Insert-ask table (sealed_value (own first.0) first.1) (sealed_value (own second.0) second.1)) }
+    ensures { result ≡ asks session (InsertAsk table (sealed_value (own first.0) first.1) (sealed_value (own second.0) second.1)) }
 {
     Request {
         session,
@@ -119,7 +119,7 @@ fn insert(session: usize, table: usize, first: (i32, i32), second: (i32, i32)) -
 }
 
 fn delete(session: usize, table: usize, predicate: Predicate) -> Request<Rung>
-    ensures { result ≡ asks session (Delete-ask table predicate) }
+    ensures { result ≡ asks session (DeleteAsk table predicate) }
 {
     Request {
         session,
@@ -134,7 +134,7 @@ fn update(
     first: (i32, i32),
     second: (i32, i32),
 ) -> Request<Rung>
-    ensures { result ≡ asks session (Update-ask table predicate (sealed_value (own first.0) first.1) (sealed_value (own second.0) second.1)) }
+    ensures { result ≡ asks session (UpdateAsk table predicate (sealed_value (own first.0) first.1) (sealed_value (own second.0) second.1)) }
 {
     Request {
         session,

@@ -44,10 +44,10 @@ serves v es ps le lp =
     ∙ ap₂ (listed (Ok tt) (run rungs table_records at_first (requests_with v))) (filled_all worked es (sym le)) (lays v ps)
 
 -- What a call that served the requests returned and left.
-pub plays : (v : ℤ) (rs : List (TableRecord Rung)) (w w-end : State Rung) (us : List (Request Rung)) (es es-end : List (Event Rung)) (ps ps-end : List (Place Rung)) (r : Result Unit ShortBuffer) →
+pub plays : (v : ℤ) (rs : List (TableRecord Rung)) (w w_end : State Rung) (us : List (Request Rung)) (es es-end : List (Event Rung)) (ps ps-end : List (Place Rung)) (r : Result Unit ShortBuffer) →
     rs ≡ table_records → w ≡ at_first → us ≡ requests_with v → length es ≡ 15 → length ps ≡ 8 →
-    listed r w-end es-end ps-end ≡ serving_all rungs rs w us es ps → (r ≡ Ok tt) × (es-end ≡ worked) × (ps-end ≡ set ps 4 (row_with v))
-plays v rs w w-end us es es-end ps ps-end r hr hw hu le lp e =
-    let h : listed r w-end es-end ps-end ≡ listed (Ok tt) (run rungs table_records at_first (requests_with v)) worked (set ps 4 (row_with v)) =
+    listed r w_end es-end ps-end ≡ serving_all rungs rs w us es ps → (r ≡ Ok tt) × (es-end ≡ worked) × (ps-end ≡ set ps 4 (row_with v))
+plays v rs w w_end us es es-end ps ps-end r hr hw hu le lp e =
+    let h : listed r w_end es-end ps-end ≡ listed (Ok tt) (run rungs table_records at_first (requests_with v)) worked (set ps 4 (row_with v)) =
     e ∙ (λ i. serving_all rungs (hr i) (hw i) (hu i) es ps) ∙ serves v es ps le lp in
     (ap (λ (o : Listed Rung). o.outcome) h, ap (λ (o : Listed Rung). o.events) h, ap (λ (o : Listed Rung). o.places) h)
