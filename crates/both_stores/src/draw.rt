@@ -39,11 +39,11 @@ impl Draw {
     }
 
     fn low_label(&mut self) -> Rung {
-        <Rung as labels::Label>::own_label(i32::from(self.low(4)))
+        Rung::own_label(i32::from(self.low(4)))
     }
 
     fn label(&mut self, low: i32, count: u16) -> Rung {
-        <Rung as labels::Label>::own_label(self.value(low, count))
+        Rung::own_label(self.value(low, count))
     }
 
     fn sealed(&mut self) -> Sealed<Rung> {

@@ -51,7 +51,7 @@ const KINDS: [&'static str; 9] = [
 ];
 
 fn rung(number: i32) -> Rung {
-    <Rung as labels::Label>::own_label(number)
+    Rung::own_label(number)
 }
 
 fn sealed(label: i32, value: i32) -> Sealed<Rung> {

@@ -1,5 +1,5 @@
 -- What the functions on lent cells do. Assumes nothing.
-use Rattle.std.specs.Prelude.{◌≡◌, ℕ, suc, ◌+◌, ◌<◌, ◌≤◌, List, [], ◌∷◌, ◌++◌, length, take, drop, ℤ, ◌≢◌, slice_index, slice_index_or, slice_set}
+use Rattle.std.specs.Prelude.{◌≡◌, ℕ, suc, ◌+◌, ◌<◌, ◌≤◌, List, [], ◌∷◌, ◌++◌, length, take, drop, ℤ, ◌≢◌, slice_index, slice_set}
 use Rattle.std.specs.List.{AllByRecursion}
 use Rattle.stores.specs.declared.rows.Row.{Row}
 use Rattle.stores.specs.Tables.{Table}
@@ -36,7 +36,7 @@ Inside cells c = AllByRecursion (λ p. p < length cells) (used cells c)
 
 -- Where the row at a place lies, by the cells of its table.
 pub record Found (ps : List ℕ) (place : ℕ) (s : Spot) : Type 0 where
-  pub here : slice_index_or ps place 0 ≡ s.here
+  pub here : slice_index ps place ≡ s.here
   pub before : (k : ℕ) → place ≡ suc k → slice_index ps k ≡ s.before
 
 -- The cells with another link in one, which keeps its row.

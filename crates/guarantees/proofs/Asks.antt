@@ -1,5 +1,5 @@
 -- What is asked of one session, seen at x. Assumes nothing.
-use Rattle.std.proofs.Common.{◌≡◌, Bool, true, false, List, [], ◌∷◌, ℤ, refl, inl, inr}
+use Rattle.std.proofs.Common.{◌≡◌, Bool, false, List, [], ◌∷◌, ℤ, refl, inl, inr}
 use Rattle.std.proofs.lemmas.Bool.{cases_Bool, true≢false}
 use Rattle.labels.specs.Kind.{Kind, Lattice}
 use Rattle.sessions.specs.declared.Sealed.{Sealed}

@@ -45,6 +45,7 @@ pub trait Label: Copy {
     fn own_label(value: i32) -> Self
         ensures { result ≡ kind.own value };
 
+    // What each kind must prove: laws, since they stand below the last function.
     ghost lattice: { Lattice kind };
 
     ghost keeps_lawful: { Keeps kind lawful };

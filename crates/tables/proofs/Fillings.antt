@@ -1,5 +1,5 @@
 -- Places filled by a walk. Assumes nothing.
-use Rattle.std.proofs.Common.{◌≡◌, ◌+◌, Bool, true, false, cond, ◌&&◌, ltb, List, [], ◌∷◌, ◌++◌, map, length, set, fold, sym, refl, ap, ◌∙◌, append_assoc, arith, length-append, ltb-false, ltb-true}
+use Rattle.std.proofs.Common.{◌≡◌, Bool, true, false, cond, ◌&&◌, ltb, List, [], ◌∷◌, ◌++◌, map, length, set, fold, sym, refl, ap, ◌∙◌, append_assoc, arith, length-append, ltb-false, ltb-true}
 use Rattle.std.proofs.lemmas.List.{length_push}
 use Rattle.labels.specs.Kind.{Kind}
 use Rattle.stores.specs.declared.rows.Row.{Row}

@@ -51,7 +51,7 @@ const NO_EVENT: Event<Rung> = Event {
 };
 
 fn no_place() -> Place<Rung> {
-    let nothing = Sealed::new(<Rung as labels::Label>::lowest(), 0);
+    let nothing = Sealed::new(Rung::lowest(), 0);
     Place {
         key: 0,
         first: nothing,
@@ -67,7 +67,7 @@ fn print_history(
     events: &[Event<Rung>],
     places: &[Place<Rung>],
 ) -> anyhow::Result<()> {
-    let highest = <Rung as labels::Label>::own_label(7);
+    let highest = Rung::own_label(7);
     let lines = show_history(rt.alloc(), highest, requests, events, places)?;
     println!(rt; "\nlabel  seen     {side} history: request -> answer")?;
     for ((request, event), line) in requests.iter().zip(events.iter()).zip(lines.iter()) {

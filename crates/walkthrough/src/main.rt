@@ -134,7 +134,7 @@ fn run(rt: &HostRuntime) -> anyhow::Result<()> {
     }; 3];
     let records = records()?;
     let mut store = Packed::new(Plan::of(&[2, 1])?, &mut rows);
-    let nothing = Sealed::new(<Rung as labels::Label>::lowest(), 0);
+    let nothing = Sealed::new(Rung::lowest(), 0);
     let mut places = [Place {
         key: 0,
         first: nothing,

@@ -29,7 +29,7 @@ const EITHER: u64 = 0xFAFA_FAFA_FAFA_FAFA;
 pub fn record() -> Result<TableRecord<Consent>, UnlawfulLabel> {
     Ok(TableRecord {
         table: Consent::new(EITHER, 0)?,
-        first: <Consent as labels::Label>::lowest(),
+        first: Consent::lowest(),
         second: SecondRule::Own,
     })
 }
@@ -40,24 +40,21 @@ fn ask(session: usize, ask: Ask<Consent>) -> Request<Consent> {
 
 // A first field with the number of a party, for all to see.
 fn of_party(party: i32) -> Sealed<Consent> {
-    Sealed::new(<Consent as labels::Label>::lowest(), party)
+    Sealed::new(Consent::lowest(), party)
 }
 
 // A value of a party, under its own label.
 fn own(party: i32, value: i32) -> Sealed<Consent> {
-    Sealed::new(<Consent as labels::Label>::own_label(party), value)
+    Sealed::new(Consent::own_label(party), value)
 }
 
 // Session 0 is cleared for everything, session 1 for what party 0 may see.
 pub fn requests() -> [Request<Consent>; 10] {
-    let lowest = <Consent as labels::Label>::lowest();
-    let highest = <Consent as labels::Label>::own_label(-1);
+    let lowest = Consent::lowest();
+    let highest = Consent::own_label(-1);
     [
         ask(0, Ask::Open(lowest, highest)),
-        ask(
-            1,
-            Ask::Open(lowest, <Consent as labels::Label>::own_label(0)),
-        ),
+        ask(1, Ask::Open(lowest, Consent::own_label(0))),
         ask(0, Ask::Insert(0, of_party(0), own(0, -250))),
         ask(0, Ask::Insert(0, of_party(2), own(2, 77))),
         ask(1, Ask::Select(0, LOW_SECONDS, 2)),

@@ -36,7 +36,7 @@ const LOW_SECONDS: Predicate = Predicate {
 fn rung(number: i32) -> Rung
     ensures { result ≡ own number }
 {
-    <Rung as labels::Label>::own_label(number)
+    Rung::own_label(number)
 }
 
 // A value under a rung.
