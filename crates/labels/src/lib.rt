@@ -16,8 +16,8 @@ mod monotone;
 mod tests;
 
 pub use consent::Consent;
-use std::error::Error;
 use std::fmt;
+use thiserror::Error;
 
 // A kind of label: a lattice whose labels say who may learn of a value.
 pub trait Label: Copy {
@@ -52,7 +52,8 @@ pub trait Label: Copy {
 }
 
 // The numbers given for a label make none.
-#[derive(Clone, Copy, PartialEq, Eq, Debug)]
+#[derive(Clone, Copy, PartialEq, Eq, Debug, Error)]
+#[error("label numbers unlawful")]
 pub struct UnlawfulLabel;
 
 impl UnlawfulLabel {
@@ -62,14 +63,6 @@ impl UnlawfulLabel {
         15
     }
 }
-
-impl fmt::Display for UnlawfulLabel {
-    fn fmt<W: fmt::Write>(&self, f: &mut fmt::Formatter<W>) -> fmt::Result {
-        f.write_str("label numbers unlawful")
-    }
-}
-
-impl Error for UnlawfulLabel {}
 
 // A rung label: a number from 0 to 7, which flows to every number that is not below it.
 #[derive(Clone, Copy, PartialEq, Eq, Debug)]

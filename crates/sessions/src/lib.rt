@@ -2,14 +2,14 @@
 #![tactic(auto)]
 
 ghost use Rattle.std.specs.Prelude.{◌≡◌};
-ghost use Rattle.sessions.specs.Refusals.{number_of};
+ghost use Rattle.sessions.specs.Refusals.{number_of, label_of};
 ghost use Rattle.sessions.specs.Steps.{closed_session, sealed_value, outcome, opening, raising, lowering, sealing, unsealing, served, on_session};
 
 use labels::Label;
-use std::fmt;
+use thiserror::Error;
 
 // A value under a label. Anyone may make one, since requests carry them.
-#[derive(Clone, Copy)]
+#[derive(Clone, Copy, PartialEq, Eq, Debug)]
 pub struct Sealed<L> {
     label: L,
     value: i32,
@@ -37,7 +37,7 @@ impl<L: Label> Sealed<L> {
 }
 
 // The current label and the clearance of an open session.
-#[derive(Clone, Copy)]
+#[derive(Clone, Copy, PartialEq, Eq, Debug)]
 pub struct Standing<L> {
     label: L,
     clearance: L,
@@ -58,21 +58,35 @@ impl<L: Label> Standing<L> {
 }
 
 // Why a request is turned down, with the session's label as it is left where that is returned.
-#[derive(Clone, Copy)]
+#[derive(Clone, Copy, PartialEq, Eq, Debug, Error)]
 pub enum Refusal<L> {
+    #[error("no session of that number")]
     NoSession,
+    #[error("the session is closed")]
     SessionClosed,
+    #[error("no table of that number")]
     NoTable(L),
+    #[error("the label of the first field does not flow to the label of the table")]
     FirstAboveTable(L),
+    #[error("out of the range from label to clearance")]
     OutOfRange,
+    #[error("the label does not flow to what would be written")]
     LabelAboveTarget(L),
+    #[error("the first value is sealed above its field")]
     FirstAboveField(L),
+    #[error("the label would no longer flow to the clearance")]
     AboveClearance(L),
+    #[error("the label joined with what the query looks at would no longer flow to the clearance")]
     QueryAboveClearance(L),
+    #[error("what the query looks at does not flow to what would be written")]
     QueryAboveTarget(L),
+    #[error("the second value is sealed above its field")]
     SecondAboveField(L),
+    #[error("the table is at its limit")]
     TableFull(L),
+    #[error("the keys of the table are used up")]
     KeysSpent(L),
+    #[error("the matching rows outnumber the places")]
     TooFewPlaces(L),
 }
 
@@ -98,37 +112,29 @@ impl<L: Label> Refusal<L> {
         }
     }
 
-    fn cause(self) -> &'static str {
+    // The session's label as it is left, where that is returned.
+    pub fn label(self) -> Option<L>
+        ensures { result ≡ label_of self }
+    {
         match self {
-            Refusal::NoSession => "no session of that number",
-            Refusal::SessionClosed => "the session is closed",
-            Refusal::NoTable(_) => "no table of that number",
-            Refusal::FirstAboveTable(_) =>
-                "the label of the first field does not flow to the label of the table",
-            Refusal::OutOfRange => "out of the range from label to clearance",
-            Refusal::LabelAboveTarget(_) => "the label does not flow to what would be written",
-            Refusal::FirstAboveField(_) => "the first value is sealed above its field",
-            Refusal::AboveClearance(_) => "the label would no longer flow to the clearance",
-            Refusal::QueryAboveClearance(_) =>
-                "the label joined with what the query looks at would no longer flow to the clearance",
-            Refusal::QueryAboveTarget(_) =>
-                "what the query looks at does not flow to what would be written",
-            Refusal::SecondAboveField(_) => "the second value is sealed above its field",
-            Refusal::TableFull(_) => "the table is at its limit",
-            Refusal::KeysSpent(_) => "the keys of the table are used up",
-            Refusal::TooFewPlaces(_) => "the matching rows outnumber the places",
+            Refusal::NoSession | Refusal::SessionClosed | Refusal::OutOfRange => None,
+            Refusal::NoTable(label)
+            | Refusal::FirstAboveTable(label)
+            | Refusal::LabelAboveTarget(label)
+            | Refusal::FirstAboveField(label)
+            | Refusal::AboveClearance(label)
+            | Refusal::QueryAboveClearance(label)
+            | Refusal::QueryAboveTarget(label)
+            | Refusal::SecondAboveField(label)
+            | Refusal::TableFull(label)
+            | Refusal::KeysSpent(label)
+            | Refusal::TooFewPlaces(label) => Some(label),
         }
     }
 }
 
-impl<L: Label> fmt::Display for Refusal<L> {
-    fn fmt<W: fmt::Write>(&self, f: &mut fmt::Formatter<W>) -> fmt::Result {
-        f.write_str(self.cause())
-    }
-}
-
 // A session: closed, or open with a label and a clearance. It is not `Copy`, so an open one is never doubled.
-#[derive(Drop)]
+#[derive(PartialEq, Eq, Debug, Drop)]
 pub struct Session<L> {
     standing: Option<Standing<L>>,
 }

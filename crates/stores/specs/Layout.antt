@@ -10,6 +10,10 @@ new_tables ls = map (λ l. record { limit = l; given = 0; rows = [] }) ls
 abbrev pub layable : List ℕ → ℕ → Bool
 layable ls rows = nat_lt 0 (length ls) && nat_le (length ls) 8 && nat_le (sum ls) 2048 && nat_le (sum ls) rows
 
+-- The sum of limits, unless it exceeds 2,048.
+abbrev pub small_sum : List ℕ → Option ℕ
+small_sum ls = cond (nat_le (sum ls) 2048) (Some (sum ls)) None
+
 -- The limits, where they can be laid out in so many rows.
 abbrev pub laying_out : List ℕ → ℕ → Option (List ℕ)
 laying_out ls rows = cond (layable ls rows) (Some ls) None

@@ -1,11 +1,11 @@
 // A plan: limits of tables that fit into the rows lent.
 ghost use Rattle.std.specs.Prelude.{◌≡◌, ◌≤◌, length, take, sum};
 
-use std::error::Error;
-use std::fmt;
+use thiserror::Error;
 
 // Limits that cannot be laid out.
-#[derive(Clone, Copy, Debug)]
+#[derive(Clone, Copy, PartialEq, Eq, Debug, Error)]
+#[error("store cannot be laid out")]
 pub struct LayoutRefusal;
 
 impl LayoutRefusal {
@@ -15,14 +15,6 @@ impl LayoutRefusal {
         16
     }
 }
-
-impl fmt::Display for LayoutRefusal {
-    fn fmt<W: fmt::Write>(&self, f: &mut fmt::Formatter<W>) -> fmt::Result {
-        f.write_str("store cannot be laid out")
-    }
-}
-
-impl Error for LayoutRefusal {}
 
 // The limits of at most 8 tables, for exactly N lent rows: a store over a plan never lacks a row.
 #[derive(Clone, Copy)]

@@ -2,8 +2,10 @@
 ghost use Rattle.std.specs.Prelude.{◌≡◌};
 ghost use Rattle.stores.specs.Changes.{number_of};
 
+use thiserror::Error;
+
 // A row of a table: its key, and the values of its first and second field.
-#[derive(Clone, Copy)]
+#[derive(Clone, Copy, PartialEq, Eq, Debug, Default)]
 pub struct Row {
     pub key: u32,
     pub first: i32,
@@ -11,10 +13,13 @@ pub struct Row {
 }
 
 // Why a row is not added.
-#[derive(Clone, Copy)]
+#[derive(Clone, Copy, PartialEq, Eq, Debug, Error)]
 pub enum AddRefusal {
+    #[error("no table of that number")]
     NoTable,
+    #[error("the table is at its limit")]
     TableFull,
+    #[error("the keys of the table are used up")]
     KeysSpent,
 }
 
@@ -31,7 +36,7 @@ impl AddRefusal {
 }
 
 // What becomes of a row in a pass over its table.
-#[derive(Clone, Copy)]
+#[derive(Clone, Copy, PartialEq, Eq, Debug)]
 pub enum Fate {
     Keep,
     Rewrite(i32, i32),
