@@ -1,10 +1,11 @@
 -- A list of requests served one after another. Assumes nothing.
-use Rattle.std.proofs.Common.{◌≡◌, ℕ, zero, suc, ◌+◌, ◌-◌, ◌<◌, ◌≤◌, List, [], ◌∷◌, ◌++◌, length, get_or, take, drop, set, None, Ok, sym, refl, ap, ◌∙◌, append_assoc, add-one, arith, length-drop, take-append-drop, drop-cons, drop-drop}
+use Rattle.std.proofs.Common.{◌≡◌, ℕ, zero, suc, ◌+◌, ◌-◌, ◌<◌, ◌≤◌, List, [], ◌∷◌, ◌++◌, length, get_or, take, drop, set, None, Ok, Result, sym, refl, ap, ◌∙◌, append_assoc, add-one, arith, length-drop, take-append-drop, drop-cons, drop-drop}
 use native.Mathlib.Numerals.{unary_clauses}
 use borrow.Rule.Slice.PartMut.{put_mid}
 use Rattle.std.proofs.lemmas.List.{drop_all, length-take-le}
 use Rattle.std.proofs.lemmas.Slice.{take-put_mid, drop-put_mid}
 use Rattle.labels.specs.Kind.{Kind}
+use Rattle.sessions.specs.declared.Refusal.{Refusal}
 use Rattle.tables.specs.declared.records.TableRecord.{TableRecord}
 use Rattle.tables.specs.declared.queries.Place.{Place}
 use Rattle.tables.specs.Outcomes.{filled}
@@ -41,11 +42,11 @@ module _ {L : Type 0} (k : Kind L) (rs : List (TableRecord L)) where
       listed (Ok tt) o.monitor (take i es ++ o.events) (take start ps ++ o.places)
 
   -- what is kept of a request, by the monitor before and after it
-  abbrev pub kept : State L → Request L → Answer L → State L → Event L
+  abbrev pub kept : State L → Request L → Result (Answer L) (Refusal L) → State L → Event L
   kept w u a w' = record { before = standing_in w u.session; answer = a; after = standing_in w' u.session }
 
   -- a request served, and then the rest behind it
-  behind_later : (i start : ℕ) (w : State L) (u : Request L) (us : List (Request L)) (a : Answer L) (w' : State L) (es es' : List (Event L)) (ps ps' : List (Place L)) →
+  behind_later : (i start : ℕ) (w : State L) (u : Request L) (us : List (Request L)) (a : Result (Answer L) (Refusal L)) (w' : State L) (es es' : List (Event L)) (ps ps' : List (Place L)) →
       single (Ok a) w' ps' ≡ answered_from start u (step k rs w u) ps → es' ≡ set es i (kept w u a w') → i < length es → start + room u.ask ≤ length ps →
       behind (i + 1) (start + room u.ask) w' us es' ps' ≡ behind i start w (u ∷ us) es ps
   behind_later i start w u us a w' es es' ps ps' e put more within =
@@ -80,7 +81,7 @@ module _ {L : Type 0} (k : Kind L) (rs : List (TableRecord L)) where
       pub left_room : start + room u.ask ≤ length ps
       left_room = omega (arith, room_enough, ap (λ (v : Request L). room v.ask) is)
 
-      pub left_later : (a : Answer L) (w' : State L) (es' : List (Event L)) (ps' : List (Place L)) → single (Ok a) w' ps' ≡ answered_from start u (step k rs w u) ps → es' ≡ set es i (kept w u a w') → i < length es → length ps' ≡ length ps →
+      pub left_later : (a : Result (Answer L) (Refusal L)) (w' : State L) (es' : List (Event L)) (ps' : List (Place L)) → single (Ok a) w' ps' ≡ answered_from start u (step k rs w u) ps → es' ≡ set es i (kept w u a w') → i < length es → length ps' ≡ length ps →
           Left (i + 1) (start + room u.ask) w' us es' ps' all
       unfolding Left
       left_later a w' es' ps' e put some long =

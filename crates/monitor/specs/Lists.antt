@@ -1,6 +1,7 @@
 -- Requests served into lent events and places. Assumes nothing.
 use Rattle.std.specs.Prelude.{ℕ, suc, ◌-◌, cond, List, [], ◌∷◌, ◌++◌, length, take, drop, Some, None, Ok, Err, Option, Result, nat_le}
 use Rattle.labels.specs.Kind.{Kind}
+use Rattle.sessions.specs.declared.Refusal.{Refusal}
 use Rattle.sessions.specs.Refusals.{tests}
 use Rattle.tables.specs.declared.records.TableRecord.{TableRecord}
 use Rattle.tables.specs.declared.queries.Place.{Place}
@@ -45,11 +46,11 @@ laid (u ∷ us) (r ∷ rs) ps = filled r.places (take (room u.ask) ps) ++ laid u
 
 -- What serving one request into lent places returns and leaves.
 pub record Single (L : Type 0) : Type 0 where
-  pub outcome : Result (Answer L) ShortBuffer
+  pub outcome : Result (Result (Answer L) (Refusal L)) ShortBuffer
   pub monitor : State L
   pub places : List (Place L)
 
-abbrev pub single : {L : Type 0} → Result (Answer L) ShortBuffer → State L → List (Place L) → Single L
+abbrev pub single : {L : Type 0} → Result (Result (Answer L) (Refusal L)) ShortBuffer → State L → List (Place L) → Single L
 single r w ps = record { outcome = r; monitor = w; places = ps }
 
 -- What a request returns and leaves, where all lent places are its own.

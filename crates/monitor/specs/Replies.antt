@@ -7,19 +7,18 @@ use Rattle.stores.specs.Tables.{Table}
 use Rattle.tables.specs.declared.queries.Place.{Place}
 use Rattle.tables.specs.Outcomes.{Told, Wrote}
 use Rattle.monitor.specs.declared.requests.Answer.{Answer}
-use Rattle.monitor.specs.declared.requests.Answer.TheVariants.{Refused}
 
--- The answer that says a result.
-abbrev pub answer_of : {L A : Type 0} → (A → Answer L) → Result A (Refusal L) → Answer L
-answer_of say (Ok a) = say a
-answer_of say (Err e) = Refused e
+-- The answer that says a result, unless that is a refusal.
+abbrev pub answer_of : {L A : Type 0} → (A → Answer L) → Result A (Refusal L) → Result (Answer L) (Refusal L)
+answer_of say (Ok a) = Ok (say a)
+answer_of say (Err e) = Err e
 
--- All that a request returns: its answer, and the places that it fills, in their order.
+-- All that a request returns: its answer or a refusal, and the places that it fills, in their order.
 pub record Reply (L : Type 0) : Type 0 where
-  pub answer : Answer L
+  pub answer : Result (Answer L) (Refusal L)
   pub places : List (Place L)
 
-abbrev pub reply : {L : Type 0} → Answer L → List (Place L) → Reply L
+abbrev pub reply : {L : Type 0} → Result (Answer L) (Refusal L) → List (Place L) → Reply L
 reply a ps = record { answer = a; places = ps }
 
 -- What a request returns, and its session and the tables after it.

@@ -1,5 +1,5 @@
 -- What one request, and a list of them, answers and leaves. Assumes nothing.
-use Rattle.std.specs.Prelude.{ℕ, List, [], ◌∷◌, Some, None, Option, slice_set}
+use Rattle.std.specs.Prelude.{ℕ, List, [], ◌∷◌, Some, None, Err, Option, slice_set}
 use Rattle.std.specs.List.{slice_get}
 use Rattle.labels.specs.Kind.{Kind}
 use Rattle.sessions.specs.declared.Standing.{Standing}
@@ -13,7 +13,7 @@ use Rattle.monitor.specs.declared.requests.Ask.{Ask}
 use Rattle.monitor.specs.declared.requests.Ask.TheVariants.{Open, Raise, LowerClearance, Seal, Unseal, Select, Insert, Delete, Update}
 use Rattle.monitor.specs.declared.requests.Request.{Request}
 use Rattle.monitor.specs.declared.requests.Event.{Event}
-use Rattle.monitor.specs.declared.requests.Answer.TheVariants.{Done, Sealed, Value, Filled, Key, Changed, Refused}
+use Rattle.monitor.specs.declared.requests.Answer.TheVariants.{Done, Sealed, Value, Filled, Key, Changed}
 use Rattle.monitor.specs.Replies.{Reply, reply, Effect, of_session, of_reading, of_writing}
 
 -- The sessions and the tables of a monitor.
@@ -43,7 +43,7 @@ turn r w = record { returned = r; after = w }
 
 -- What is asked of a session that was looked up; refusal 1 where there is none.
 abbrev pub turn_by : {L : Type 0} → Option (Session L) → State L → ℕ → (Session L → Effect L) → Turn L
-turn_by None w i ask = turn (reply (Refused NoSession) []) w
+turn_by None w i ask = turn (reply (Err NoSession) []) w
 turn_by (Some s) w i ask = let o = ask s in turn o.returned (state (slice_set w.sessions i o.session) o.tables)
 
 module _ {L : Type 0} (k : Kind L) (rs : List (TableRecord L)) where

@@ -4,9 +4,8 @@ ghost use Rattle.monitor.specs.Lists.{room as room_of};
 
 use labels::Label;
 use sessions::{Refusal, Sealed, Standing};
-use std::error::Error;
-use std::fmt;
 use tables::Predicate;
+use thiserror::Error;
 
 // What is asked of a session: opening from a label to a clearance, raising to a label, lowering the clearance to a label,
 // sealing a value under a label, unsealing; and, on the table of a number, selecting by a predicate into so many places,
@@ -43,9 +42,9 @@ pub struct Request<L> {
     pub ask: Ask<L>,
 }
 
-// What a request is answered: that it is done, a sealed value, a value that was unsealed, how many places a selection filled,
-// the key of the row inserted, how many rows were deleted or updated; or why it is turned down.
-#[derive(Clone, Copy)]
+// What a request is answered that is not turned down: that it is done, a sealed value, a value that was unsealed, how many
+// places a selection filled, the key of the row inserted, how many rows were deleted or updated.
+#[derive(Clone, Copy, PartialEq, Eq, Debug)]
 pub enum Answer<L> {
     Done,
     Sealed(Sealed<L>),
@@ -53,36 +52,23 @@ pub enum Answer<L> {
     Filled(usize),
     Key(u32),
     Changed(usize),
-    Refused(Refusal<L>),
 }
 
-// What is kept of a request that was served: its answer, and how the session of its number stood before it and stands after
-// it, none where that is closed or missing.
-#[derive(Clone, Copy)]
+// What is kept of a request that was served: its answer or why it is turned down, and how the session of its number stood
+// before it and stands after it, none where that is closed or missing.
+#[derive(Clone, Copy, PartialEq, Eq, Debug)]
 pub struct Event<L> {
     pub before: Option<Standing<L>>,
-    pub answer: Answer<L>,
+    pub answer: Result<Answer<L>, Refusal<L>>,
     pub after: Option<Standing<L>>,
 }
 
 // Why requests are not served at all: fewer events are lent than there are requests, or the places that are left do not
 // suffice for the request of this number, counted from 0.
-#[derive(Clone, Copy, Debug)]
+#[derive(Clone, Copy, PartialEq, Eq, Debug, Error)]
 pub enum ShortBuffer {
+    #[error("fewer events are lent than there are requests")]
     Events,
+    #[error("request {0} asks for more places than are left")]
     Places(usize),
 }
-
-impl fmt::Display for ShortBuffer {
-    fn fmt<W: fmt::Write>(&self, f: &mut fmt::Formatter<W>) -> fmt::Result {
-        match *self {
-            ShortBuffer::Events => f.write_str("fewer events are lent than there are requests"),
-            ShortBuffer::Places(request) => write!(
-                f,
-                "request {request} asks for more places than are left"
-            ),
-        }
-    }
-}
-
-impl Error for ShortBuffer {}

@@ -1,102 +1,57 @@
 // Serving requests: one, or a whole list. Buffers are tested first, so that a list is served as a whole or not at all.
 ghost use Rattle.std.specs.Prelude.{◌≡◌, ◌+◌, ◌<◌, ◌≤◌, length, None, Ok, slice_set};
 ghost use Rattle.std.specs.List.{slice_get};
-ghost use Rattle.monitor.specs.declared.requests.Answer.TheVariants.{Done, Sealed as SealedAnswer, Value, Filled, Key, Changed};
-ghost use Rattle.monitor.specs.Replies.{answer_of};
 ghost use Rattle.monitor.specs.Steps.{state, step, standing_of};
 ghost use Rattle.monitor.specs.Lists.{room as room_of, short_of, single, answered, answered_from, listed, serving, serving_each, serving_all};
 
 use crate::requests::{Answer, Ask, Event, Request, ShortBuffer};
 use labels::Label;
-use sessions::{Refusal, Sealed, Session, Standing};
+use sessions::{Refusal, Session, Standing};
 use stores::Store;
 use tables::{Place, TableRecord};
 
-// The answer that says the result of each kind of request.
-fn done<L: Label>(res: Result<(), Refusal<L>>) -> Answer<L>
-    ensures { result ≡ answer_of (λ _. Done) res }
-{
-    match res {
-        Ok(()) => Answer::Done,
-        Err(refusal) => Answer::Refused(refusal),
-    }
-}
-
-fn sealed<L: Label>(res: Result<Sealed<L>, Refusal<L>>) -> Answer<L>
-    ensures { result ≡ answer_of SealedAnswer res }
-{
-    match res {
-        Ok(sealed) => Answer::Sealed(sealed),
-        Err(refusal) => Answer::Refused(refusal),
-    }
-}
-
-fn value<L: Label>(res: Result<i32, Refusal<L>>) -> Answer<L>
-    ensures { result ≡ answer_of Value res }
-{
-    match res {
-        Ok(value) => Answer::Value(value),
-        Err(refusal) => Answer::Refused(refusal),
-    }
-}
-
-fn filled<L: Label>(res: Result<usize, Refusal<L>>) -> Answer<L>
-    ensures { result ≡ answer_of Filled res }
-{
-    match res {
-        Ok(count) => Answer::Filled(count),
-        Err(refusal) => Answer::Refused(refusal),
-    }
-}
-
-fn key<L: Label>(res: Result<u32, Refusal<L>>) -> Answer<L>
-    ensures { result ≡ answer_of Key res }
-{
-    match res {
-        Ok(key) => Answer::Key(key),
-        Err(refusal) => Answer::Refused(refusal),
-    }
-}
-
-fn changed<L: Label>(res: Result<usize, Refusal<L>>) -> Answer<L>
-    ensures { result ≡ answer_of Changed res }
-{
-    match res {
-        Ok(count) => Answer::Changed(count),
-        Err(refusal) => Answer::Refused(refusal),
-    }
-}
-
 // A request whose places are exactly those lent.
+#[tactic(auto, using(crate::proofs::Turns::session_turn, crate::proofs::Turns::reading_turn, crate::proofs::Turns::writing_turn))]
 fn serve_in<L: Label, S: Store>(
     sessions: &mut [Session<L>],
     records: &[TableRecord<L>],
     store: &mut S,
     request: Request<L>,
     places: &mut [Place<L>],
-) -> Answer<L>
+) -> Result<Answer<L>, Refusal<L>>
     requires { length places.old ≡ room_of request.ask }
     ensures { single (Ok result) (state sessions.new (S.Store.tables store.new)) places.new ≡ answered (step L.Label.kind records.now (state sessions.old (S.Store.tables store.old)) request) places.old }
 {
     let Request { session, ask } = request;
     match ask {
-        Ask::Open(label, clearance) => done(sessions::open(sessions, session, label, clearance)),
-        Ask::Raise(to) => done(sessions::raise(sessions, session, to)),
-        Ask::LowerClearance(to) => done(sessions::lower_clearance(sessions, session, to)),
-        Ask::Seal(number, under) => sealed(sessions::seal(sessions, session, number, under)),
-        Ask::Unseal(secret) => value(sessions::unseal(sessions, session, secret)),
-        Ask::Select(table, predicate, _) => filled(tables::select(
+        Ask::Open(label, clearance) => {
+            sessions::open(sessions, session, label, clearance)?;
+            Ok(Answer::Done)
+        }
+        Ask::Raise(to) => {
+            sessions::raise(sessions, session, to)?;
+            Ok(Answer::Done)
+        }
+        Ask::LowerClearance(to) => {
+            sessions::lower_clearance(sessions, session, to)?;
+            Ok(Answer::Done)
+        }
+        Ask::Seal(value, under) => Ok(Answer::Sealed(sessions::seal(
+            sessions, session, value, under,
+        )?)),
+        Ask::Unseal(sealed) => Ok(Answer::Value(sessions::unseal(sessions, session, sealed)?)),
+        Ask::Select(table, predicate, _) => Ok(Answer::Filled(tables::select(
             sessions, records, store, session, table, predicate, places,
-        )),
-        Ask::Insert(table, first, second) => key(tables::insert(
+        )?)),
+        Ask::Insert(table, first, second) => Ok(Answer::Key(tables::insert(
             sessions, records, store, session, table, first, second,
-        )),
-        Ask::Delete(table, predicate) => changed(tables::delete(
+        )?)),
+        Ask::Delete(table, predicate) => Ok(Answer::Changed(tables::delete(
             sessions, records, store, session, table, predicate,
-        )),
-        Ask::Update(table, predicate, first, second) => changed(tables::update(
+        )?)),
+        Ask::Update(table, predicate, first, second) => Ok(Answer::Changed(tables::update(
             sessions, records, store, session, table, predicate, first, second,
-        )),
+        )?)),
     }
 }
 
@@ -108,7 +63,7 @@ fn serve_from<L: Label, S: Store>(
     request: Request<L>,
     places: &mut [Place<L>],
     start: usize,
-) -> Answer<L>
+) -> Result<Answer<L>, Refusal<L>>
     requires { start + room_of request.ask ≤ length places.old }
     ensures { single (Ok result) (state sessions.new (S.Store.tables store.new)) places.new ≡ answered_from start request (step L.Label.kind records.now (state sessions.old (S.Store.tables store.old)) request) places.old }
 {
@@ -123,7 +78,7 @@ pub fn serve<L: Label, S: Store>(
     store: &mut S,
     request: Request<L>,
     places: &mut [Place<L>],
-) -> Result<Answer<L>, ShortBuffer>
+) -> Result<Result<Answer<L>, Refusal<L>>, ShortBuffer>
     ensures { single result (state sessions.new (S.Store.tables store.new)) places.new ≡ serving L.Label.kind records.now (state sessions.old (S.Store.tables store.old)) request places.old }
 {
     if request.ask.room() > places.len() {
@@ -137,8 +92,8 @@ fn first_short<L: Label>(requests: &[Request<L>], places: usize) -> Option<usize
     ensures { result ≡ short_of 0 places requests.now }
 {
     let mut left = places;
-    for i in 0..requests.len() {
-        let room = requests[i].ask.room();
+    for (i, request) in requests.iter().enumerate() {
+        let room = request.ask.room();
         if room > left {
             return Some(i);
         }
@@ -147,20 +102,18 @@ fn first_short<L: Label>(requests: &[Request<L>], places: usize) -> Option<usize
     None
 }
 
+fn standing<L: Label>(sessions: &[Session<L>], session: usize) -> Option<Standing<L>>
+    ensures { result ≡ standing_of (slice_get sessions.now session) }
+{
+    sessions.get(session)?.standing()
+}
+
+// Apart from the loop, where the size of an element, which depends on the label kind, is in the way of the proof.
 fn put<T: Copy>(items: &mut [T], at: usize, item: T)
     requires { at < length items.old }
     ensures { items.new ≡ slice_set items.old at item }
 {
     items[at] = item;
-}
-
-fn standing<L: Label>(sessions: &[Session<L>], session: usize) -> Option<Standing<L>>
-    ensures { result ≡ standing_of (slice_get sessions.now session) }
-{
-    if session >= sessions.len() {
-        return None;
-    }
-    sessions[session].standing()
 }
 
 // Every request of a list is served, where events and places suffice.
@@ -177,11 +130,10 @@ fn serve_each<L: Label, S: Store>(
     ensures { listed (Ok tt) (state sessions.new (S.Store.tables store.new)) events.new places.new ≡ serving_each L.Label.kind records.now (state sessions.old (S.Store.tables store.old)) requests.now events.old places.old }
 {
     let mut start = 0;
-    for i in 0..requests.len() {
-        let request = requests[i];
+    for (i, request) in requests.iter().enumerate() {
         let end = start + request.ask.room();
         let before = standing(sessions, request.session);
-        let answer = serve_from(sessions, records, store, request, places, start);
+        let answer = serve_from(sessions, records, store, *request, places, start);
         let after = standing(sessions, request.session);
         put(
             events,

@@ -6,14 +6,14 @@ use sessions::Sealed;
 use stores::Row;
 
 // A range of values, both ends counted. One whose low end exceeds the high one holds nothing.
-#[derive(Clone, Copy)]
+#[derive(Clone, Copy, PartialEq, Eq, Debug)]
 pub struct Range {
     pub low: i32,
     pub high: i32,
 }
 
 // Ranges on the key, the first and the second field of a row, each of which may be absent.
-#[derive(Clone, Copy)]
+#[derive(Clone, Copy, PartialEq, Eq, Debug)]
 pub struct Predicate {
     pub key: Option<Range>,
     pub first: Option<Range>,
@@ -21,7 +21,7 @@ pub struct Predicate {
 }
 
 // A row as it is answered.
-#[derive(Clone, Copy)]
+#[derive(Clone, Copy, PartialEq, Eq, Debug)]
 pub struct Place<L> {
     pub key: u32,
     pub first: Sealed<L>,

@@ -8,7 +8,7 @@ use stores::Store;
 
 // How the label of a second field is worked out: a fixed label, the own label of the first field, or the meet or the join of
 // a label with that own label.
-#[derive(Clone, Copy)]
+#[derive(Clone, Copy, PartialEq, Eq, Debug)]
 pub enum SecondRule<L> {
     Fixed(L),
     Own,
@@ -17,7 +17,7 @@ pub enum SecondRule<L> {
 }
 
 // The labels of a table: of its row count and keys, of its first fields, and the rule for its second fields.
-#[derive(Clone, Copy)]
+#[derive(Clone, Copy, PartialEq, Eq, Debug)]
 pub struct TableRecord<L> {
     pub table: L,
     pub first: L,
@@ -25,7 +25,7 @@ pub struct TableRecord<L> {
 }
 
 // A session's label, and the record of the table that it asks for.
-#[derive(Clone, Copy)]
+#[derive(Clone, Copy, PartialEq, Eq, Debug)]
 pub struct Entry<L> {
     pub label: L,
     pub record: TableRecord<L>,
