@@ -1,5 +1,5 @@
 -- Whole runs, seen at x. Assumes nothing.
-use Rattle.std.proofs.Common.{◌≡◌, ℕ, Bool, true, false, cond, ◌||◌, List, [], ◌∷◌, map, set, Some, None, Option, sym, refl, ap, ◌∙◌, inl, inr}
+use Rattle.std.proofs.Common.{Ok, Err, ◌≡◌, ℕ, Bool, true, false, cond, ◌||◌, List, [], ◌∷◌, map, set, Some, None, Option, sym, refl, ap, ◌∙◌, inl, inr}
 use Rattle.std.specs.List.{slice_get}
 use Rattle.std.proofs.lemmas.Bool.{cases_Bool, cond-false, true≢false, or_parts}
 use Rattle.labels.specs.Kind.{Kind, Lattice}
@@ -13,7 +13,7 @@ use Rattle.tables.specs.declared.records.TableRecord.{TableRecord}
 use Rattle.monitor.specs.declared.requests.Ask.{Ask}
 use Rattle.monitor.specs.declared.requests.Ask.TheVariants.{Open, Raise, LowerClearance, Seal, Unseal, Select, Insert, Delete, Update}
 use Rattle.monitor.specs.declared.requests.Request.{Request}
-use Rattle.monitor.specs.declared.requests.Answer.TheVariants.{Done, Refused}
+use Rattle.monitor.specs.declared.requests.Answer.TheVariants.{Done}
 use Rattle.monitor.specs.Replies.{Reply, reply, effect, of_session}
 use Rattle.monitor.specs.Steps.{State, standing_of, turn_by, asking, step, run}
 use Rattle.guarantees.specs.declared.views.SessionView.{SessionView}
@@ -37,7 +37,7 @@ module _ {L : Type 0} (k : Kind L) (laws : Lattice k) (x : L) (rs : List (TableR
 
   -- What is asked of a session that is above: only an opening comes.
   abbrev ask_above : List Table → Ask L → Shown k laws x rs
-  ask_above ts (Open a b) = cond (k.flows a b) (shown_of k laws x rs (effect (reply Done []) (open_session a b) ts)) (record { session = view.Above; returned = None; tables = masks k laws x rs ts })
+  ask_above ts (Open a b) = cond (k.flows a b) (shown_of k laws x rs (effect (reply (Ok Done) []) (open_session a b) ts)) (record { session = view.Above; returned = None; tables = masks k laws x rs ts })
   ask_above ts (Raise a) = record { session = view.Above; returned = None; tables = ts }
   ask_above ts (LowerClearance b) = record { session = view.Above; returned = None; tables = ts }
   ask_above ts (Seal v a) = record { session = view.Above; returned = None; tables = ts }
@@ -54,7 +54,7 @@ module _ {L : Type 0} (k : Kind L) (laws : Lattice k) (x : L) (rs : List (TableR
   seen_ask ts a view.Above = ask_above ts a
 
   seen_turn : Masked → ℕ → Ask L → Option (SessionView L) → Masked × Option (Reply L)
-  seen_turn v i a None = (v, Some (reply (Refused NoSession) []))
+  seen_turn v i a None = (v, Some (reply (Err NoSession) []))
   seen_turn v i a (Some s) = let o = seen_ask v.tables a s in (record { sessions = set v.sessions i o.session; tables = o.tables }, o.returned)
 
   seen_step : Masked → Request L → Masked × Option (Reply L)

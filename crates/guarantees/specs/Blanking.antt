@@ -1,10 +1,11 @@
 -- What an observer at the label x sees: everything else is blanked. Assumes nothing.
-use Rattle.std.specs.Prelude.{◌≡◌, ℕ, true, cond, ◌↔◌, List, [], ◌∷◌, map, length, ℤ, pos, Some, None, Option}
+use Rattle.std.specs.Prelude.{◌≡◌, ℕ, true, cond, ◌↔◌, List, [], ◌∷◌, map, length, ℤ, pos, Some, None, Ok, Err, Option, Result}
 use Rattle.std.specs.List.{slice_get}
 use Rattle.labels.specs.Kind.{Kind}
 use Rattle.sessions.specs.declared.Sealed.{Sealed}
 use Rattle.sessions.specs.declared.Standing.{Standing}
 use Rattle.sessions.specs.declared.Session.{Session}
+use Rattle.sessions.specs.declared.Refusal.{Refusal}
 use Rattle.sessions.specs.Steps.{sealed_value}
 use Rattle.stores.specs.declared.rows.Row.{Row}
 use Rattle.stores.specs.Tables.{Table}
@@ -82,11 +83,15 @@ module _ {L : Type 0} (k : Kind L) (x : L) where
   blank_answer (answer.Filled n) = answer.Filled n
   blank_answer (answer.Key n) = answer.Key n
   blank_answer (answer.Changed n) = answer.Changed n
-  blank_answer (answer.Refused e) = answer.Refused e
+
+  -- What a request is answered, blanked; a refusal stays.
+  abbrev pub blank_result : Result (Answer L) (Refusal L) → Result (Answer L) (Refusal L)
+  blank_result (Ok a) = Ok (blank_answer a)
+  blank_result (Err e) = Err e
 
   -- All that is returned, blanked.
   abbrev pub blank_reply : Reply L → Reply L
-  blank_reply r = reply (blank_answer r.answer) (map blank_place r.places)
+  blank_reply r = reply (blank_result r.answer) (map blank_place r.places)
 
   -- A row keeps its key and first field; its second field is blanked as if sealed under the label that its first field gives.
   abbrev pub blank_row : TableRecord L → Row → Row

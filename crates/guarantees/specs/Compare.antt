@@ -14,7 +14,7 @@ use Rattle.monitor.specs.Replies.{Reply}
 use Rattle.monitor.specs.Steps.{State, Turn, standing_in, step, run}
 use Rattle.guarantees.specs.declared.views.EventView.{EventView}
 use Rattle.guarantees.specs.declared.views.EventView.TheVariants as event
-use Rattle.guarantees.specs.Blanking.{blank_request, blank_answer, blank_reply, view_of}
+use Rattle.guarantees.specs.Blanking.{blank_request, blank_result, blank_reply, view_of}
 
 -- A new monitor: every session is closed, and no table has a row or a key given.
 pub record New {L : Type 0} (w : State L) : Type 0 where
@@ -54,7 +54,7 @@ module _ {L : Type 0} (k : Kind L) (x : L) where
 
   -- The same by what is kept of a request: a request that is not within x is not seen at all.
   abbrev pub view_event : Ask L → Event L → EventView L
-  view_event a e = cond (opens a || low e.before) (cond (low e.after) (event.Seen (blank_answer k x e.answer)) event.Above) event.Unseen
+  view_event a e = cond (opens a || low e.before) (cond (low e.after) (event.Seen (blank_result k x e.answer)) event.Above) event.Unseen
 
   module _ (rs : List (TableRecord L)) where
     -- The requests of a list that are within x, blanked, in their order.

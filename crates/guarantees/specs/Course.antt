@@ -1,5 +1,5 @@
 -- How a session stands over a run. Assumes nothing.
-use Rattle.std.specs.Prelude.{◌≡◌, ℕ, true, List, [], ◌∷◌, ◌++◌, Some}
+use Rattle.std.specs.Prelude.{◌≡◌, ℕ, true, List, [], ◌∷◌, ◌++◌, Some, Ok}
 use Rattle.std.specs.List.{slice_get}
 use Rattle.labels.specs.Kind.{Kind}
 use Rattle.sessions.specs.Steps.{open_session}
@@ -28,7 +28,7 @@ module _ {L : Type 0} (k : Kind L) where
     pub record OpensAnew (w : State L) (u : Request L) (i : ℕ) : Type 0 where
       pub session : u.session ≡ i
       pub opening : opens u.ask ≡ true
-      pub done : (step k rs w u).returned.answer ≡ Done
+      pub done : (step k rs w u).returned.answer ≡ Ok Done
 
     -- No request of a list opens session i anew.
     abbrev pub NotOpened : State L → List (Request L) → ℕ → Type 0

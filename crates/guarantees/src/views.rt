@@ -1,17 +1,17 @@
 // What an observer at a label sees: everything else is blanked.
 ghost use Rattle.std.specs.Prelude.{◌≡◌};
 ghost use Rattle.std.specs.List.{slice_get};
-ghost use Rattle.guarantees.specs.Blanking.{blank_sealed, KeepsWhatIsSeen, blank_place, blank_answer, blank_ask, blank_request, blank_row, seen_record, view_session as session_view, view_tables, table_view, row_view};
+ghost use Rattle.guarantees.specs.Blanking.{blank_sealed, KeepsWhatIsSeen, blank_place, blank_answer, blank_result, blank_ask, blank_request, blank_row, seen_record, view_session as session_view, view_tables, table_view, row_view};
 ghost use Rattle.guarantees.specs.Compare.{opens, low, view_event as event_view};
 
 use labels::Label;
 use monitor::{Answer, Ask, Event, Request};
-use sessions::{Sealed, Session, Standing};
+use sessions::{Refusal, Sealed, Session, Standing};
 use stores::{Row, Store};
 use tables::{Place, TableRecord};
 
 // What is seen of a session: that it is closed, how it stands, or merely that it is above the observer's label.
-#[derive(Clone, Copy)]
+#[derive(Clone, Copy, PartialEq, Eq, Debug)]
 pub enum SessionView<L> {
     Closed,
     Open(Standing<L>),
@@ -19,19 +19,19 @@ pub enum SessionView<L> {
 }
 
 // What is seen of a table: that there is none of its number, that it is blanked whole, or how many rows it has.
-#[derive(Clone, Copy)]
+#[derive(Clone, Copy, PartialEq, Eq, Debug)]
 pub enum TableView {
     Missing,
     Hidden,
     Rows(usize),
 }
 
-// What is seen of a request that was served: nothing, merely that it was made, or its answer.
-#[derive(Clone, Copy)]
+// What is seen of a request that was served: nothing, merely that it was made, or its answer or refusal.
+#[derive(Clone, Copy, PartialEq, Eq, Debug)]
 pub enum EventView<L> {
     Unseen,
     Above,
-    Seen(Answer<L>),
+    Seen(Result<Answer<L>, Refusal<L>>),
 }
 
 // A sealed value keeps its label, and its value only if that label flows to the observer's; otherwise 0 stands in its place.
@@ -105,13 +105,19 @@ fn is_low<L: Label>(observer: L, standing: Option<Standing<L>>) -> bool
     }
 }
 
+fn view_result<L: Label>(
+    observer: L,
+    res: Result<Answer<L>, Refusal<L>>,
+) -> Result<Answer<L>, Refusal<L>>
+    ensures { result ≡ blank_result L.Label.kind observer res }
+{
+    Ok(view_answer(observer, res?))
+}
+
 fn is_opening<L: Label>(ask: Ask<L>) -> bool
     ensures { result ≡ opens ask }
 {
-    match ask {
-        Ask::Open(_, _) => true,
-        _ => false,
-    }
+    matches!(ask, Ask::Open(_, _))
 }
 
 // Nothing is seen of a request outside the observer's label; of one that leaves its session's label above, merely that it was
@@ -126,7 +132,7 @@ pub fn view_event<L: Label>(observer: L, ask: Ask<L>, event: Event<L>) -> EventV
     if !is_low(observer, event.after) {
         return EventView::Above;
     }
-    EventView::Seen(view_answer(observer, event.answer))
+    EventView::Seen(view_result(observer, event.answer))
 }
 
 pub fn view_session<L: Label>(observer: L, session: &Session<L>) -> SessionView<L>
@@ -164,10 +170,7 @@ fn seen_record<L: Label>(
 ) -> Option<TableRecord<L>>
     ensures { result ≡ seen_record L.Label.kind observer (slice_get records.now table) }
 {
-    if table >= records.len() {
-        return None;
-    }
-    let record = records[table];
+    let record = *records.get(table)?;
     if record.table.flows_to(observer) {
         Some(record)
     } else {
