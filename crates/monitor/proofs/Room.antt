@@ -1,14 +1,10 @@
 -- Places that suffice, request by request. Assumes nothing.
 use Rattle.std.proofs.Common.{◌≡◌, ℕ, ◌+◌, ◌-◌, ◌<◌, ◌≤◌, Bool, true, false, leb, List, length, get_or, drop, Some, None, refl, add-one, arith, drop-cons, le-leb, leb-false, leb-true}
 use borrow.Author.Tests.{lt-leb}
-use Rattle.std.proofs.lemmas.List.{drop_all}
 use Rattle.monitor.specs.declared.requests.Request.{Request}
 use Rattle.monitor.specs.Lists.{room, short_of}
 
 module _ {L : Type 0} (us : List (Request L)) (i left : ℕ) where
-  pub short_never : length us ≤ i → short_of i left (drop i us) ≡ None
-  short_never h = rw drop_all refl
-
   module _ (u : Request L) (h : i < length us) where
     pub short_here : left < room (get_or us i u).ask → short_of i left (drop i us) ≡ Some i
     short_here s = rw (drop-cons us i u h, lt-leb (room (get_or us i u).ask) left s)

@@ -40,12 +40,16 @@ unwritten s ts e = wrote (Err e) s ts
 abbrev pub wrote_as : {L : Type 0} → Session L → Changed (Result ℕ (Refusal L)) → Wrote L
 wrote_as s o = wrote o.answer s o.tables
 
--- What adding a row answers, a refusal with the session's label. A missing table does not occur there: the tests before it found one.
+-- A refusal of adding a row, with the session's label. A missing table does not occur there: the tests before it found one.
+abbrev pub refusal_under : {L : Type 0} → L → AddRefusal → Refusal L
+refusal_under c NoTable = refusal.NoTable c
+refusal_under c TableFull = refusal.TableFull c
+refusal_under c KeysSpent = refusal.KeysSpent c
+
+-- What adding a row answers, a refusal with the session's label.
 abbrev pub labelled : {L : Type 0} → L → Result ℕ AddRefusal → Result ℕ (Refusal L)
 labelled c (Ok key) = Ok key
-labelled c (Err NoTable) = Err (refusal.NoTable c)
-labelled c (Err TableFull) = Err (refusal.TableFull c)
-labelled c (Err KeysSpent) = Err (refusal.KeysSpent c)
+labelled c (Err e) = Err (refusal_under c e)
 
 -- The first places filled, the later ones as they were.
 abbrev pub filled : {X : Type 0} → List X → List X → List X

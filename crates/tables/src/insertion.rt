@@ -1,13 +1,24 @@
 // Inserting a row.
 ghost use Rattle.std.specs.Prelude.{◌≡◌};
 ghost use Rattle.stores.specs.Changes.{changed};
-ghost use Rattle.tables.specs.Outcomes.{wrote, written, writing_on};
+ghost use Rattle.tables.specs.Outcomes.{refusal_under, wrote, written, writing_on};
 ghost use Rattle.tables.specs.Steps.{inserting_at, inserting};
 
 use crate::records::{Entry, TableRecord, enter};
 use labels::Label;
 use sessions::{Refusal, Sealed, Session};
 use stores::{AddRefusal, Store};
+
+// A refusal of the store, with the session's label.
+fn labelled<L: Label>(label: L, refusal: AddRefusal) -> Refusal<L>
+    ensures { result ≡ refusal_under label refusal }
+{
+    match refusal {
+        AddRefusal::NoTable => Refusal::NoTable(label),
+        AddRefusal::TableFull => Refusal::TableFull(label),
+        AddRefusal::KeysSpent => Refusal::KeysSpent(label),
+    }
+}
 
 // The end of an insertion, once the label is raised.
 fn insert_at<L: Label, S: Store>(
@@ -26,12 +37,9 @@ fn insert_at<L: Label, S: Store>(
     {
         return Err(Refusal::SecondAboveField(label));
     }
-    match store.add(table, first.host_value(), second.host_value()) {
-        Ok(key) => Ok(key),
-        Err(AddRefusal::NoTable) => Err(Refusal::NoTable(label)),
-        Err(AddRefusal::TableFull) => Err(Refusal::TableFull(label)),
-        Err(AddRefusal::KeysSpent) => Err(Refusal::KeysSpent(label)),
-    }
+    store
+        .add(table, first.host_value(), second.host_value())
+        .map_err(|refusal| labelled(label, refusal))
 }
 
 fn insert_on<L: Label, S: Store>(

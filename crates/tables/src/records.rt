@@ -55,10 +55,7 @@ fn record_of<L: Label, S: Store>(
     if table >= store.table_count() {
         return None;
     }
-    if table >= records.len() {
-        return None;
-    }
-    Some(records[table])
+    records.get(table).copied()
 }
 
 pub fn enter<L: Label, S: Store>(

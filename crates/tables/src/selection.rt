@@ -26,9 +26,9 @@ fn look_on<L: Label, S: Store>(
     session.raise(record.table)?;
     let label = label.join(record.table);
     let query = query_label(store, table, record.second, predicate.second);
-    if let Err(_) = session.raise(query) {
-        return Err(Refusal::QueryAboveClearance(label));
-    }
+    session
+        .raise(query)
+        .map_err(|_| Refusal::QueryAboveClearance(label))?;
     Ok(Entry {
         label: label.join(query),
         record,
