@@ -1,5 +1,5 @@
 // The formula of a word, for people to read.
-ghost use Rattle.std.specs.Prelude.{◌<◌, Decides};
+ghost use Rattle.std.specs.Prelude.{Decides};
 ghost use Rattle.labels.specs.Consent.{Smallest};
 
 use crate::bits::has_bit;

@@ -1,5 +1,5 @@
 // Whether a word is monotone, bit by bit.
-ghost use Rattle.std.specs.Prelude.{◌<◌, Decides};
+ghost use Rattle.std.specs.Prelude.{Decides};
 ghost use Rattle.labels.specs.Consent.{RisesFrom, Monotone};
 
 use crate::bits::has_bit;
