@@ -1,4 +1,4 @@
--- What `all` and `any` over the numbers below n tell, where the closure decides P and keeps its captures.
+-- What `all` and `any` over the numbers below n answer, where the closure decides P of a number and stays as it was. Assumes nothing.
 use Rattle.std.proofs.Common.{◌≡◌, ℕ, ◌<◌, List, Bool, true, false, not, length, get_or, Decides, MatchBool, HoldsAt, refl, subst, sym, true≢false, arith}
 use Rattle.std.proofs.iter.Yields.{nat_range_steps}
 use Rattle.std.proofs.lemmas.Bool.Decides.{not_from_Decides}
@@ -36,10 +36,12 @@ module _ {F : Type 0} {g : Mut F (ℕ × Unit {0}) Bool} {f : F} (P : ℕ → Ty
   no : (x : ℕ) (q : F) → Called g f (x, tt) false q → P x → ⊥
   no x q k = not_from_Decides false (each x false q k).1 refl
 
-  pub all_decides : {n : ℕ} {u : Range ℕ} {r : Bool} → ChecksAll nat_range_steps g (record { start = 0; end = n }) f r u → Decides r ((k : ℕ) → k < n → P k)
-  all_decides {n} {u} {r} ran = each_decided n P (λ x. P x → ⊥) r (λ x p q. q p)
-      (cases_from_all u f r P (λ x. P x → ⊥) ran (YieldsList-from_range 0 n n refl (omega arith)) (λ x q k. ((each x true q k).0, yes x q k)) no)
+  -- whether each number has P
+  pub all_decides : {n : ℕ} {s u : Range ℕ} {r : Bool} → ChecksAll nat_range_steps g s f r u → s ≡ record { start = 0; end = n } → Decides r ((k : ℕ) → k < n → P k)
+  all_decides {n} {s} {u} {r} ran e = each_decided n P (λ x. P x → ⊥) r (λ x p q. q p)
+      (cases_from_all u f r P (λ x. P x → ⊥) ran (YieldsList-from_range 0 n n e (omega arith)) (λ x q k. ((each x true q k).0, yes x q k)) no)
 
-  pub any_decides : {n : ℕ} {u : Range ℕ} {r : Bool} → ChecksAny nat_range_steps g (record { start = 0; end = n }) f r u → Decides (not r) ((k : ℕ) → k < n → P k → ⊥)
-  any_decides {n} {u} {r} ran = each_decided n (λ x. P x → ⊥) P (not r) (λ x p q. p q)
-      (swapped _ _ r (cases_from_any u f r P (λ x. P x → ⊥) ran (YieldsList-from_range 0 n n refl (omega arith)) yes (λ x q k. ((each x false q k).0, no x q k))))
+  -- whether none has, turned round
+  pub any_decides : {n : ℕ} {s u : Range ℕ} {r : Bool} → ChecksAny nat_range_steps g s f r u → s ≡ record { start = 0; end = n } → Decides (not r) ((k : ℕ) → k < n → P k → ⊥)
+  any_decides {n} {s} {u} {r} ran e = each_decided n (λ x. P x → ⊥) P (not r) (λ x p q. p q)
+      (swapped _ _ r (cases_from_any u f r P (λ x. P x → ⊥) ran (YieldsList-from_range 0 n n e (omega arith)) yes (λ x q k. ((each x false q k).0, no x q k))))
