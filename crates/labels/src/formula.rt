@@ -1,5 +1,5 @@
 // The formula of a word, for people to read.
-ghost use Rattle.std.specs.Prelude.{◌<◌, Decides};
+ghost use Rattle.std.specs.Prelude.{Decides};
 ghost use Rattle.labels.specs.Consent.{Smallest};
 
 use crate::bits::has_bit;
@@ -13,15 +13,9 @@ pub struct Formula {
 
 // Whether the parties of a set suffice, and no fewer of them do.
 fn is_smallest(word: u64, set: u32) -> bool
-    requires { set < 64 }
     ensures { Decides result (Smallest word set) }
 {
-    for part in 0..set {
-        if part & set == part && has_bit(word, part) {
-            return false;
-        }
-    }
-    has_bit(word, set)
+    has_bit(word, set) && !(0..set).any(|part| part & set == part && has_bit(word, part))
 }
 
 fn write_parties<W: fmt::Write>(f: &mut fmt::Formatter<W>, set: u32) -> fmt::Result {
