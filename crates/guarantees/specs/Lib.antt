@@ -1,3 +1,4 @@
+pub mod Sides
 pub mod Blanking
 pub mod Compare
 pub mod Course
