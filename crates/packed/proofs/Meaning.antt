@@ -39,7 +39,7 @@ module _ (p : Packed) where
     abbrev pub stretch : Stretch
     stretch = get_or p.stretches n blank
 
-    pub same_stretches : set p.stretches n (refilled stretch stretch.fill) ≡ p.stretches
+    pub same_stretches : set p.stretches n stretch ≡ p.stretches
     same_stretches = set-get_or p.stretches n blank
 
     module _ (there : n < p.count) where
@@ -72,14 +72,14 @@ module _ (p : Packed) where
       no_row place h = rw (table_there, slice_get_past (take stretch.fill.used (part rows stretch)) place (omega (arith, length_rows)))
 
       -- the stretch rewritten by a change, whichever that is
-      module _ {A : Type 0} (change : List Table → ℕ → Changed A) (local : Local change) (answer : A) (fill : Fill) (after : List Row) (w : Rewritten (Alone change answer) stretch fill rows after) where
-        rewritten : InOrder 0 after (take p.count (set p.stretches n (refilled stretch fill))) × (changed answer (tables_of after (set p.stretches n (refilled stretch fill)) p.count) ≡ change tables n)
+      module _ {A : Type 0} (change : List Table → ℕ → Changed A) (local : Local change) (answer : A) (at : Stretch) (after : List Row) (w : Rewritten (Alone change answer) stretch at rows after) where
+        rewritten : InOrder 0 after (take p.count (set p.stretches n at)) × (changed answer (tables_of after (set p.stretches n at) p.count) ≡ change tables n)
         rewritten =
-            let r = refills rows stretch fill w.new lies_there.fits w.long w.within (local.sound answer _ _ w.takes lies_there.sound) 0 (take p.count p.stretches) n stretch_there order in
-            rw (w.rest, take-set-lt p.count p.stretches n (refilled stretch fill) there) (r.0, rw r.1 (local.among answer tables n (table_in rows stretch) (held w.new fill) table_there w.takes))
+            let r = refills rows stretch at.fill w.new lies_there.fits w.long w.within (local.sound answer _ _ w.takes lies_there.sound) 0 (take p.count p.stretches) n stretch_there order in
+            rw (w.rest, w.place, take-set-lt p.count p.stretches n (refilled stretch at.fill) there) (r.0, rw r.1 (local.among answer tables n (table_in rows stretch) (held w.new at.fill) table_there w.takes))
 
-        pub order_after : InOrder 0 after (take p.count (set p.stretches n (refilled stretch fill)))
+        pub order_after : InOrder 0 after (take p.count (set p.stretches n at))
         order_after = rewritten.0
 
-        pub change_after : changed answer (tables_of after (set p.stretches n (refilled stretch fill)) p.count) ≡ change tables n
+        pub change_after : changed answer (tables_of after (set p.stretches n at) p.count) ≡ change tables n
         change_after = rewritten.1

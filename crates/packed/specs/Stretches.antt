@@ -41,12 +41,13 @@ spliced rows s new = take s.from rows ++ (new ++ drop s.limit (drop s.from rows)
 abbrev pub Alone : {A : Type 0} → (List Table → ℕ → Changed A) → A → Table → Table → Type 0
 Alone change answer t u = changed answer (u ∷ []) ≡ change (t ∷ []) 0
 
--- No row outside of a stretch was written, and its table was taken to another.
-pub record Rewritten (Takes : Table → Table → Type 0) (s : Stretch) (fill : Fill) (before after : List Row) : Type 0 where
+-- No row outside of a stretch was written, and its table was taken to that of a stretch at the same place.
+pub record Rewritten (Takes : Table → Table → Type 0) (s t : Stretch) (before after : List Row) : Type 0 where
   pub new : List Row
   pub long : length new ≡ s.limit
-  pub within : fill.used ≤ s.limit
-  pub takes : Takes (table_in before s) (held new fill)
+  pub place : t ≡ record s { fill = t.fill }
+  pub within : t.fill.used ≤ s.limit
+  pub takes : Takes (table_in before s) (held new t.fill)
   pub rest : after ≡ spliced before s new
 
 -- Stretches for limits, one behind the other from a place on, with no row and no key given.

@@ -23,39 +23,39 @@ impl<'a> Lent<'a> {
         stretch::visit_each(&self.rows[from..end], visitor);
     }
 
-    pub fn add(&mut self, at: Stretch, first: i32, second: i32) -> (Result<u32, AddRefusal>, Fill)
-        requires { Lies self.old.rows.now at }
-        ensures { Rewritten (Alone (λ ts n. adding ts n first second) result.0) at result.1 self.old.rows.now self.new.rows.now }
+    pub fn add(&mut self, at: &mut Stretch, first: i32, second: i32) -> Result<u32, AddRefusal>
+        requires { Lies self.old.rows.now at.old }
+        ensures { Rewritten (Alone (λ ts n. adding ts n first second) result) at.old at.new self.old.rows.now self.new.rows.now }
     {
-        let Stretch { from, limit, fill } = at;
-        let end = from + limit;
-        stretch::add(&mut self.rows[from..end], fill, first, second)
+        let from = at.from;
+        let end = from + at.limit;
+        stretch::add(&mut self.rows[from..end], &mut at.fill, first, second)
     }
 
     pub fn replace(&mut self, at: Stretch, place: usize, first: i32, second: i32) -> bool
         requires { Lies self.old.rows.now at }
-        ensures { Rewritten (Alone (λ ts n. replacing ts n place first second) result) at at.fill self.old.rows.now self.new.rows.now }
+        ensures { Rewritten (Alone (λ ts n. replacing ts n place first second) result) at at self.old.rows.now self.new.rows.now }
     {
-        let Stretch { from, limit, fill } = at;
-        let end = from + limit;
-        stretch::replace(&mut self.rows[from..end], fill, place, first, second)
+        let from = at.from;
+        let end = from + at.limit;
+        stretch::replace(&mut self.rows[from..end], at.fill, place, first, second)
     }
 
-    pub fn remove(&mut self, at: Stretch, place: usize) -> (bool, Fill)
-        requires { Lies self.old.rows.now at }
-        ensures { Rewritten (Alone (λ ts n. removing ts n place) result.0) at result.1 self.old.rows.now self.new.rows.now }
+    pub fn remove(&mut self, at: &mut Stretch, place: usize) -> bool
+        requires { Lies self.old.rows.now at.old }
+        ensures { Rewritten (Alone (λ ts n. removing ts n place) result) at.old at.new self.old.rows.now self.new.rows.now }
     {
-        let Stretch { from, limit, fill } = at;
-        let end = from + limit;
-        stretch::remove(&mut self.rows[from..end], fill, place)
+        let from = at.from;
+        let end = from + at.limit;
+        stretch::remove(&mut self.rows[from..end], &mut at.fill, place)
     }
 
-    pub fn sweep<E: Edit>(&mut self, at: Stretch, editor: &E) -> (usize, Fill)
-        requires { Lies self.old.rows.now at }
-        ensures { Rewritten (Alone (sweeping (E.Edit.decides editor.now)) result.0) at result.1 self.old.rows.now self.new.rows.now }
+    pub fn sweep<E: Edit>(&mut self, at: &mut Stretch, editor: &E) -> usize
+        requires { Lies self.old.rows.now at.old }
+        ensures { Rewritten (Alone (sweeping (E.Edit.decides editor.now)) result) at.old at.new self.old.rows.now self.new.rows.now }
     {
-        let Stretch { from, limit, fill } = at;
-        let end = from + limit;
-        stretch::sweep(&mut self.rows[from..end], fill, editor)
+        let from = at.from;
+        let end = from + at.limit;
+        stretch::sweep(&mut self.rows[from..end], &mut at.fill, editor)
     }
 }

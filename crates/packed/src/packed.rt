@@ -69,9 +69,9 @@ impl<'a> Store for Packed<'a> {
         if table >= self.count {
             return Err(AddRefusal::NoTable);
         }
-        let at = self.stretches[table];
-        let (answer, fill) = self.lent.add(at, first, second);
-        self.stretches[table] = Stretch { fill, ..at };
+        let mut at = self.stretches[table];
+        let answer = self.lent.add(&mut at, first, second);
+        self.stretches[table] = at;
         answer
     }
 
@@ -87,9 +87,9 @@ impl<'a> Store for Packed<'a> {
         if table >= self.count {
             return false;
         }
-        let at = self.stretches[table];
-        let (answer, fill) = self.lent.remove(at, place);
-        self.stretches[table] = Stretch { fill, ..at };
+        let mut at = self.stretches[table];
+        let answer = self.lent.remove(&mut at, place);
+        self.stretches[table] = at;
         answer
     }
 
@@ -103,9 +103,9 @@ impl<'a> Store for Packed<'a> {
         if table >= self.count {
             return 0;
         }
-        let at = self.stretches[table];
-        let (answer, fill) = self.lent.sweep(at, editor);
-        self.stretches[table] = Stretch { fill, ..at };
+        let mut at = self.stretches[table];
+        let answer = self.lent.sweep(&mut at, editor);
+        self.stretches[table] = at;
         answer
     }
 }

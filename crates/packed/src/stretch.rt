@@ -35,26 +35,22 @@ pub fn visit_each<V: Visit>(rows: &[Row], visitor: &mut V)
     }
 }
 
-pub fn add(rows: &mut [Row], fill: Fill, first: i32, second: i32) -> (Result<u32, AddRefusal>, Fill)
-    requires { fill.used ≤ length rows.old }
-    ensures change { Alone (λ ts n. adding ts n first second) result.0 (held rows.old fill) (held rows.new result.1) }
-    ensures within { result.1.used ≤ length rows.new }
+pub fn add(rows: &mut [Row], fill: &mut Fill, first: i32, second: i32) -> Result<u32, AddRefusal>
+    requires { fill.old.used ≤ length rows.old }
+    ensures change { Alone (λ ts n. adding ts n first second) result (held rows.old fill.old) (held rows.new fill.new) }
+    ensures within { fill.new.used ≤ length rows.new }
 {
     if fill.used >= rows.len() {
-        return (Err(AddRefusal::TableFull), fill);
+        return Err(AddRefusal::TableFull);
     }
     if fill.given >= 1_000_000 {
-        return (Err(AddRefusal::KeysSpent), fill);
+        return Err(AddRefusal::KeysSpent);
     }
     let key = fill.given + 1;
     rows[fill.used] = Row { key, first, second };
-    (
-        Ok(key),
-        Fill {
-            used: fill.used + 1,
-            given: key,
-        },
-    )
+    fill.used += 1;
+    fill.given = key;
+    Ok(key)
 }
 
 pub fn replace(rows: &mut [Row], fill: Fill, place: usize, first: i32, second: i32) -> bool
@@ -69,23 +65,18 @@ pub fn replace(rows: &mut [Row], fill: Fill, place: usize, first: i32, second: i
     true
 }
 
-pub fn remove(rows: &mut [Row], fill: Fill, place: usize) -> (bool, Fill)
-    requires { fill.used ≤ length rows.old }
-    ensures change { Alone (λ ts n. removing ts n place) result.0 (held rows.old fill) (held rows.new result.1) }
-    ensures within { result.1.used ≤ length rows.new }
+pub fn remove(rows: &mut [Row], fill: &mut Fill, place: usize) -> bool
+    requires { fill.old.used ≤ length rows.old }
+    ensures change { Alone (λ ts n. removing ts n place) result (held rows.old fill.old) (held rows.new fill.new) }
+    ensures within { fill.new.used ≤ length rows.new }
 {
     if place >= fill.used {
-        return (false, fill);
+        return false;
     }
     let next = place + 1;
     rows.copy_within(next..fill.used, place);
-    (
-        true,
-        Fill {
-            used: fill.used - 1,
-            given: fill.given,
-        },
-    )
+    fill.used -= 1;
+    true
 }
 
 // A pass over all rows, with a place that is read and one, never ahead of it, that is written.
@@ -123,18 +114,13 @@ fn compact<E: Edit>(rows: &mut [Row], editor: &E) -> Compacted
     }
 }
 
-pub fn sweep<E: Edit>(rows: &mut [Row], fill: Fill, editor: &E) -> (usize, Fill)
-    requires { fill.used ≤ length rows.old }
-    ensures change { Alone (sweeping (E.Edit.decides editor.now)) result.0 (held rows.old fill) (held rows.new result.1) }
-    ensures within { result.1.used ≤ length rows.new }
+pub fn sweep<E: Edit>(rows: &mut [Row], fill: &mut Fill, editor: &E) -> usize
+    requires { fill.old.used ≤ length rows.old }
+    ensures change { Alone (sweeping (E.Edit.decides editor.now)) result (held rows.old fill.old) (held rows.new fill.new) }
+    ensures within { fill.new.used ≤ length rows.new }
 {
     let used = fill.used;
-    let done = compact(&mut rows[0..used], editor);
-    (
-        done.touched,
-        Fill {
-            used: done.kept,
-            given: fill.given,
-        },
-    )
+    let Compacted { kept, touched } = compact(&mut rows[0..used], editor);
+    fill.used = kept;
+    touched
 }

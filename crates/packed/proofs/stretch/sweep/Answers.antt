@@ -4,7 +4,7 @@ use Rattle.packed.proofs.stretch.sweep.Goals as goal
 
 pub returns : goal.returns
 returns g c =
-    let done = c.compact-done.ensures in record {
-      change = swept c.args.rows.now c.args.fill c.requires _ _ _ _ _ (sub-zero _) c.compact-done.auto.rows done.few done.kept done.count;
-      within = swept_within c.args.rows.now c.args.fill c.requires (g.E.Edit.decides c.args.editor.now) _ _ c.compact-done.result.touched _ (sub-zero _) c.compact-done.auto.rows done.few;
+    let done = c.compact-kept.ensures in record {
+      change = swept c.args.rows.now c.args.fill.now c.requires _ _ _ _ _ (sub-zero _) c.compact-kept.auto.rows done.few done.kept done.count;
+      within = swept_within c.args.rows.now c.args.fill.now c.requires (g.E.Edit.decides c.args.editor.now) _ _ c.compact-kept.result.touched _ (sub-zero _) c.compact-kept.auto.rows done.few;
     }
