@@ -18,9 +18,9 @@ part rows s = take s.limit (drop s.from rows)
 abbrev pub table_in : List Row → Stretch → Table
 table_in rows s = held (part rows s) s.fill
 
--- The tables of the stretches in use: what a packed store means.
-abbrev pub tables_of : List Row → List Stretch → ℕ → List Table
-tables_of rows stretches count = map (table_in rows) (take count stretches)
+-- The tables of all stretches: what a packed store means.
+abbrev pub tables_of : List Row → List Stretch → List Table
+tables_of rows stretches = map (table_in rows) stretches
 
 -- A stretch lies within the rows lent, is filled within its limit, and its table is sound.
 pub record Lies (rows : List Row) (s : Stretch) : Type 0 where

@@ -6,14 +6,14 @@ ghost use Rattle.packed.specs.Stretches.{Alone, held};
 use stores::{AddRefusal, Edit, Fate, Row, Visit};
 
 // How many rows of a stretch are used, and how many keys were given in it.
-#[derive(Clone, Copy)]
+#[derive(Clone, Copy, Default)]
 pub struct Fill {
     pub used: usize,
     pub given: u32,
 }
 
 // Where a stretch lies in the lent rows, and how far it is filled.
-#[derive(Clone, Copy)]
+#[derive(Clone, Copy, Default)]
 pub struct Stretch {
     pub from: usize,
     pub limit: usize,

@@ -1,14 +1,11 @@
 use Rattle.std.proofs.Common.{fold, sym, ap, ◌∙◌}
 use Rattle.stores.specs.Tables.{rows_of}
-use Rattle.packed.proofs.Meaning.{no_table, lies_there, table_there}
+use Rattle.packed.proofs.Meaning.{lies_there, table_there}
 use Rattle.packed.proofs.packed.PackedStore.walk.Goals as goal
 
 pub walk-requires : goal.walk-requires
-walk-requires g c = lies_there c.args.self.now c.args.table c.if-table-self.true
+walk-requires g c = lies_there c.args.self.now c.args.table c.in-Some.at (sym c.in-Some.ensures)
 
-pub returns-then-table-self : goal.returns-then-table-self
-returns-then-table-self g c =
-    c.walk.ensures ∙ sym (ap (λ o. fold g.V.Visit.step c.args.visitor.now (rows_of o)) (table_there c.args.self.now c.args.table c.if-table-self.true))
-
-pub returns-else-table-self : goal.returns-else-table-self
-returns-else-table-self g c = sym (ap (λ o. fold g.V.Visit.step c.args.visitor.now (rows_of o)) (no_table c.args.self.now c.args.table c.if-table-self.false))
+pub returns-in-Some : goal.returns-in-Some
+returns-in-Some g c =
+    c.walk.ensures ∙ sym (ap (λ o. fold g.V.Visit.step c.args.visitor.now (rows_of o)) (table_there c.args.self.now c.args.table c.in-Some.at (sym c.in-Some.ensures)))
