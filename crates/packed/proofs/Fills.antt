@@ -9,7 +9,7 @@ use Rattle.stores.specs.declared.rows.Row.{Row}
 use Rattle.stores.specs.declared.rows.Fate.{Fate}
 use Rattle.stores.specs.Tables.{key_limit}
 use Rattle.stores.specs.Changes.{row, adding, replacing, without, removing, edited, touched, sweeping}
-use Rattle.packed.specs.declared.stretch.Fill.{Fill}
+use Rattle.packed.specs.declared.fill.Fill.{Fill}
 use Rattle.packed.specs.Stretches.{held, Alone}
 
 abbrev blank : Row

@@ -19,7 +19,7 @@ lent_there ss n r item = slice_get_read ss (length ss) n r.now refl item.3.0 ite
 
 module _ (p : Packed) (n : ℕ) where
   abbrev rows : List Row
-  rows = p.lent.rows.now
+  rows = p.rows.now
 
   abbrev stretches : List Stretch
   stretches = p.stretches.items

@@ -5,7 +5,7 @@ use Rattle.std.proofs.lemmas.List.{drop-take, drop_at, take_at, length-take-le}
 use Rattle.std.proofs.lemmas.Slice.{take-put_mid_below, drop-put_mid}
 use Rattle.stores.specs.declared.rows.Row.{Row}
 use Rattle.stores.specs.Tables.{SoundTable}
-use Rattle.packed.specs.declared.stretch.Fill.{Fill}
+use Rattle.packed.specs.declared.fill.Fill.{Fill}
 use Rattle.packed.specs.declared.stretch.Stretch.{Stretch}
 use Rattle.packed.specs.Stretches.{held, part, table_in, Lies, InOrder, spliced}
 

@@ -3,7 +3,7 @@ use Rattle.std.specs.Prelude.{◌≡◌, ℕ, ◌+◌, ◌≤◌, List, [], ◌�
 use Rattle.stores.specs.declared.rows.Row.{Row}
 use Rattle.stores.specs.Tables.{Table, SoundTable}
 use Rattle.stores.specs.Changes.{Changed, changed}
-use Rattle.packed.specs.declared.stretch.Fill.{Fill}
+use Rattle.packed.specs.declared.fill.Fill.{Fill}
 use Rattle.packed.specs.declared.stretch.Stretch.{Stretch}
 
 -- The table in the rows of one stretch, as far as they are filled.

@@ -3,7 +3,8 @@ ghost use Rattle.std.specs.Prelude.{◌≡◌};
 ghost use Rattle.stores.specs.Plans.{limits_of};
 ghost use Rattle.packed.specs.Stretches.{empty_stretches};
 
-use crate::stretch::{Fill, Stretch};
+use crate::fill::Fill;
+use crate::stretch::Stretch;
 use arrayvec::ArrayVec;
 use stores::Plan;
 

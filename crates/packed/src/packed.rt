@@ -7,7 +7,6 @@ ghost use Rattle.packed.specs.Stretches.{InOrder, tables_of};
 ghost use Rattle.packed.specs.Soundness.{sound_store};
 
 use crate::laying::lay_out;
-use crate::lent::Lent;
 use crate::stretch::Stretch;
 use arrayvec::ArrayVec;
 use stores::{AddRefusal, Edit, Plan, Row, Store, Visit};
@@ -15,20 +14,20 @@ use stores::{AddRefusal, Edit, Plan, Row, Store, Visit};
 // Tables over lent rows. Each has a stretch of its own, and a removal moves the later rows of the stretch down.
 #[derive(Drop)]
 pub struct Packed<'a> {
-    lent: Lent<'a>,
+    rows: &'a mut [Row],
     stretches: ArrayVec<Stretch, 8>,
     ghost few: { array_vec_len stretches ≤ 8 },
-    ghost order: { ∥ InOrder 0 lent.rows.now stretches.items ∥₁ },
+    ghost order: { ∥ InOrder 0 rows.now stretches.items ∥₁ },
 }
 
 impl<'a> Packed<'a> {
     // A store with the tables of the plan. What the rows held before is forgotten.
     pub fn new<const N: usize>(plan: Plan<N>, rows: &'a mut [Row; N]) -> Packed<'a>
-        ensures { tables_of result.lent.rows.now result.stretches.items ≡ new_tables (limits_of plan.entry) }
+        ensures { tables_of result.rows.now result.stretches.items ≡ new_tables (limits_of plan.entry) }
     {
         Packed {
             stretches: lay_out(&plan),
-            lent: Lent { rows },
+            rows,
         }
     }
 
@@ -41,9 +40,9 @@ impl<'a> Packed<'a> {
 }
 
 impl<'a> Store for Packed<'a> {
-    ghost tables = { λ s. tables_of s.lent.rows.now s.stretches.items };
+    ghost tables = { λ s. tables_of s.rows.now s.stretches.items };
 
-    ghost sound = { λ s. sound_store s.lent.rows.now s.stretches.items s.few s.order };
+    ghost sound = { λ s. sound_store s.rows.now s.stretches.items s.few s.order };
 
     fn table_count(&self) -> usize {
         self.stretches.len()
@@ -60,33 +59,33 @@ impl<'a> Store for Packed<'a> {
             return None;
         }
         let index = at.from + place;
-        Some(self.lent.rows[index])
+        Some(self.rows[index])
     }
 
     fn add(&mut self, table: usize, first: i32, second: i32) -> Result<u32, AddRefusal> {
         let Some(at) = self.stretches.get_mut(table) else {
             return Err(AddRefusal::NoTable);
         };
-        self.lent.add(at, first, second)
+        at.add(self.rows, first, second)
     }
 
     fn replace(&mut self, table: usize, place: usize, first: i32, second: i32) -> bool {
         let Some(at) = self.stretch(table) else {
             return false;
         };
-        self.lent.replace(at, place, first, second)
+        at.replace(self.rows, place, first, second)
     }
 
     fn remove(&mut self, table: usize, place: usize) -> bool {
         let Some(at) = self.stretches.get_mut(table) else {
             return false;
         };
-        self.lent.remove(at, place)
+        at.remove(self.rows, place)
     }
 
     fn walk<V: Visit>(&self, table: usize, visitor: &mut V) {
         if let Some(at) = self.stretch(table) {
-            self.lent.walk(at, visitor);
+            at.walk(self.rows, visitor);
         }
     }
 
@@ -94,6 +93,6 @@ impl<'a> Store for Packed<'a> {
         let Some(at) = self.stretches.get_mut(table) else {
             return 0;
         };
-        self.lent.sweep(at, editor)
+        at.sweep(self.rows, editor)
     }
 }

@@ -14,11 +14,11 @@ pub invariant_of-self : goal.invariant_of-self
 invariant_of-self c =
     let p = c.args.self.now in
     let o = order_after p c.args.table c.in-Some.at (sym c.in-Some.ensures) _ (replacing_local c.args.place c.args.first c.args.second) _ _ _ (simp (to_z-of_z c.ranges.first, to_z-of_z c.ranges.second) at c.replace.ensures) in
-    record { few = p.few; order = ∣ subst (λ ss. InOrder 0 c.replace.new.self.rows.now ss) (set_nth p.stretches.items c.args.table c.in-Some.at (sym c.in-Some.ensures)) o ∣₁ }
+    record { few = p.few; order = ∣ subst (λ ss. InOrder 0 c.replace.new.rows ss) (set_nth p.stretches.items c.args.table c.in-Some.at (sym c.in-Some.ensures)) o ∣₁ }
 
 pub returns : goal.returns
 returns c =
     let p = c.args.self.now in
-    let e = ap (λ ss. changed c.replace.result (tables_of c.replace.new.self.rows.now ss)) (sym (set_nth p.stretches.items c.args.table c.in-Some.at (sym c.in-Some.ensures))) ∙
+    let e = ap (λ ss. changed c.replace.result (tables_of c.replace.new.rows ss)) (sym (set_nth p.stretches.items c.args.table c.in-Some.at (sym c.in-Some.ensures))) ∙
     change_after p c.args.table c.in-Some.at (sym c.in-Some.ensures) _ (replacing_local c.args.place c.args.first c.args.second) _ _ _ (simp (to_z-of_z c.ranges.first, to_z-of_z c.ranges.second) at c.replace.ensures) in
     record { change = e; limits = replace_limits _ c.args.table _ _ c.args.place c.args.first c.args.second e }

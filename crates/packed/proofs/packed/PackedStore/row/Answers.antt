@@ -4,7 +4,7 @@ use Rattle.packed.proofs.Meaning.{lies_there, row_there, no_row}
 use Rattle.packed.proofs.packed.PackedStore.row.Goals as goal
 use Rattle.packed.proofs.packed.PackedStore.row.Goals.{In_ok-at}
 
-lies : (c : In_ok-at) → Lies c.args.self.now.lent.rows.now c.in_ok-at.at
+lies : (c : In_ok-at) → Lies c.args.self.now.rows.now c.in_ok-at.at
 lies c = lies_there c.args.self.now c.args.table c.in_ok-at.at (sym c.in_ok-at.ensures)
 
 pub returns-then-place-at : goal.returns-then-place-at

@@ -1,8 +1,8 @@
 use Rattle.std.proofs.Common.{◌<◌, length, arith, w32, SFits, rules}
 use Rattle.std.proofs.lemmas.Int.{to_z-of_z}
 use Rattle.packed.proofs.Compacts.{all_kept, all_counted, turn_keep, turn_rewrite, turn_remove}
-use Rattle.packed.proofs.stretch.compact.Goals as goal
-use Rattle.packed.proofs.stretch.compact.Goals.{in-Keep, in-Rewrite, in-Remove}
+use Rattle.packed.proofs.fill.compact.Goals as goal
+use Rattle.packed.proofs.fill.compact.Goals.{in-Keep, in-Rewrite, in-Remove}
 
 pub loop-read-preserved : goal.loop-read-preserved
 loop-read-preserved g c =
