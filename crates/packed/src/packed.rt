@@ -55,11 +55,7 @@ impl<'a> Store for Packed<'a> {
 
     fn row(&self, table: usize, place: usize) -> Option<Row> {
         let at = self.stretch(table)?;
-        if place >= at.fill.used {
-            return None;
-        }
-        let index = at.from + place;
-        Some(self.rows[index])
+        at.used_rows(self.rows).get(place).copied()
     }
 
     fn add(&mut self, table: usize, first: i32, second: i32) -> Result<u32, AddRefusal> {
@@ -85,7 +81,9 @@ impl<'a> Store for Packed<'a> {
 
     fn walk<V: Visit>(&self, table: usize, visitor: &mut V) {
         if let Some(at) = self.stretch(table) {
-            at.walk(self.rows, visitor);
+            for row in at.used_rows(self.rows) {
+                visitor.visit(*row);
+            }
         }
     }
 

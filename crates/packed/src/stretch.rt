@@ -1,10 +1,11 @@
 // The stretch of one table in the lent rows. No method writes a row outside of it.
-ghost use Rattle.std.specs.Prelude.{◌≡◌, take, fold};
+ghost use Rattle.std.specs.Prelude.{◌≡◌, ◌+◌, ◌≤◌, take};
 ghost use Rattle.stores.specs.Changes.{adding, replacing, removing, sweeping};
 ghost use Rattle.packed.specs.Stretches.{Alone, Lies, Rewritten, part};
 
 use crate::fill::Fill;
-use stores::{AddRefusal, Edit, Row, Visit};
+use std::ops::Range;
+use stores::{AddRefusal, Edit, Row};
 
 // Where a stretch lies in the lent rows, and how far it is filled.
 #[derive(Clone, Copy, Default)]
@@ -15,24 +16,30 @@ pub struct Stretch {
 }
 
 impl Stretch {
-    pub fn walk<V: Visit>(&self, rows: &[Row], visitor: &mut V)
+    // The rows of the stretch, as far as they are filled.
+    pub fn used_rows<'r>(&self, rows: &'r [Row]) -> &'r [Row]
         requires { Lies rows.now self.now }
-        ensures { visitor.new ≡ fold V.Visit.step visitor.old (take self.now.fill.used (part rows.now self.now)) }
+        ensures { result.now ≡ take self.now.fill.used (part rows.now self.now) }
     {
         let from = self.from;
         let end = from + self.fill.used;
-        for row in &rows[from..end] {
-            visitor.visit(*row);
-        }
+        &rows[from..end]
+    }
+
+    // The places of the stretch among the lent rows.
+    fn places(&self) -> Range<usize>
+        requires { self.now.from + self.now.limit ≤ usize.MAX }
+        ensures { result ≡ record { start = self.now.from; end = self.now.from + self.now.limit } }
+    {
+        self.from..self.from + self.limit
     }
 
     pub fn add(&mut self, rows: &mut [Row], first: i32, second: i32) -> Result<u32, AddRefusal>
         requires { Lies rows.old self.old }
         ensures { Rewritten (Alone (λ ts n. adding ts n first second) result) self.old self.new rows.old rows.new }
     {
-        let from = self.from;
-        let end = from + self.limit;
-        self.fill.add(&mut rows[from..end], first, second)
+        let places = self.places();
+        self.fill.add(&mut rows[places], first, second)
     }
 
     pub fn replace(self, rows: &mut [Row], place: usize, first: i32, second: i32) -> bool
@@ -49,17 +56,15 @@ impl Stretch {
         requires { Lies rows.old self.old }
         ensures { Rewritten (Alone (λ ts n. removing ts n place) result) self.old self.new rows.old rows.new }
     {
-        let from = self.from;
-        let end = from + self.limit;
-        self.fill.remove(&mut rows[from..end], place)
+        let places = self.places();
+        self.fill.remove(&mut rows[places], place)
     }
 
     pub fn sweep<E: Edit>(&mut self, rows: &mut [Row], editor: &E) -> usize
         requires { Lies rows.old self.old }
         ensures { Rewritten (Alone (sweeping (E.Edit.decides editor.now)) result) self.old self.new rows.old rows.new }
     {
-        let from = self.from;
-        let end = from + self.limit;
-        self.fill.sweep(&mut rows[from..end], editor)
+        let places = self.places();
+        self.fill.sweep(&mut rows[places], editor)
     }
 }
