@@ -46,14 +46,6 @@ module _ (p : Packed) (n : ℕ) where
     pub count_there : Some s.fill.used ≡ row_count tables n
     count_there = rw (table_there, length_rows)
 
-    pub row_there : (place : ℕ) (d : Row) → place < s.fill.used → Some (get_or rows (s.from + place) d) ≡ row_at tables n place
-    row_there place d h =
-        let r : slice_get (take s.fill.used (part rows s)) place ≡ Some (get_or (take s.fill.used (part rows s)) place d) = slice_get-get_or _ place d (omega (arith, length_rows)) in
-        rw (table_there, r, get_or-take s.fill.used (part rows s) place d h, get_or-take s.limit (drop s.from rows) place d (omega (arith, lies_there.within)), get_or-drop)
-
-    pub no_row : (place : ℕ) → s.fill.used ≤ place → None ≡ row_at tables n place
-    no_row place h = rw (table_there, slice_get_past (take s.fill.used (part rows s)) place (omega (arith, length_rows)))
-
     -- the stretch rewritten by a change, whichever that is
     module _ {A : Type 0} (change : List Table → ℕ → Changed A) (local : Local change) (answer : A) (at : Stretch) (after : List Row) (w : Rewritten (Alone change answer) s at rows after) where
       rewritten : InOrder 0 after (set stretches n at) × (changed answer (tables_of after (set stretches n at)) ≡ change tables n)

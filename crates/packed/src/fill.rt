@@ -31,9 +31,9 @@ impl Fill {
         Ok(key)
     }
 
-    pub fn replace(self, rows: &mut [Row], place: usize, first: i32, second: i32) -> bool
-        requires { self.used ≤ length rows.old }
-        ensures { Alone (λ ts n. replacing ts n place first second) result (held rows.old self) (held rows.new self) }
+    pub fn replace(&self, rows: &mut [Row], place: usize, first: i32, second: i32) -> bool
+        requires { self.now.used ≤ length rows.old }
+        ensures { Alone (λ ts n. replacing ts n place first second) result (held rows.old self.now) (held rows.new self.now) }
     {
         if place >= self.used {
             return false;
@@ -76,28 +76,28 @@ struct Compacted {
     touched: usize,
 }
 
-// A pass over all rows, with a place that is read and one, never ahead of it, that is written.
+// A pass over all rows. Those that are kept are written in front, never ahead of the row that is read.
 fn compact<E: Edit>(rows: &mut [Row], editor: &E) -> Compacted
     ensures kept { take result.kept rows.new ≡ edited (E.Edit.decides editor.now) rows.old }
     ensures few { result.kept ≤ length rows.old }
     ensures count { result.touched ≡ touched (E.Edit.decides editor.now) rows.old }
 {
-    let mut written = 0;
+    let mut kept = 0;
     let mut touched = 0;
     for read in 0..rows.len() {
         let row = rows[read];
         match editor.decide(row) {
             Fate::Keep => {
-                rows[written] = row;
-                written += 1;
+                rows[kept] = row;
+                kept += 1;
             }
             Fate::Rewrite(first, second) => {
-                rows[written] = Row {
-                    key: row.key,
+                rows[kept] = Row {
                     first,
                     second,
+                    ..row
                 };
-                written += 1;
+                kept += 1;
                 touched += 1;
             }
             Fate::Remove => {
@@ -105,8 +105,5 @@ fn compact<E: Edit>(rows: &mut [Row], editor: &E) -> Compacted
             }
         }
     }
-    Compacted {
-        kept: written,
-        touched,
-    }
+    Compacted { kept, touched }
 }

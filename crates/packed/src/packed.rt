@@ -3,6 +3,7 @@ ghost use Rattle.std.specs.Prelude.{◌≡◌, ◌≤◌, slice_get};
 ghost use Rattle.arrayvec.specs.ArrayVec.{array_vec_len};
 ghost use Rattle.stores.specs.Layout.{new_tables};
 ghost use Rattle.stores.specs.Plans.{limits_of};
+ghost use Rattle.stores.specs.Tables.{rows_in};
 ghost use Rattle.packed.specs.Stretches.{InOrder, tables_of};
 ghost use Rattle.packed.specs.Soundness.{sound_store};
 
@@ -37,6 +38,16 @@ impl<'a> Packed<'a> {
     {
         self.stretches.get(table).copied()
     }
+
+    // The rows of the table, none where there is no such table.
+    fn rows_in(&self, table: usize) -> &[Row]
+        ensures { result.now ≡ rows_in (tables_of self.now.rows.now self.now.stretches.items) table }
+    {
+        match self.stretch(table) {
+            Some(at) => at.used_rows(self.rows),
+            None => &[],
+        }
+    }
 }
 
 impl<'a> Store for Packed<'a> {
@@ -54,8 +65,7 @@ impl<'a> Store for Packed<'a> {
     }
 
     fn row(&self, table: usize, place: usize) -> Option<Row> {
-        let at = self.stretch(table)?;
-        at.used_rows(self.rows).get(place).copied()
+        self.rows_in(table).get(place).copied()
     }
 
     fn add(&mut self, table: usize, first: i32, second: i32) -> Result<u32, AddRefusal> {
@@ -80,10 +90,8 @@ impl<'a> Store for Packed<'a> {
     }
 
     fn walk<V: Visit>(&self, table: usize, visitor: &mut V) {
-        if let Some(at) = self.stretch(table) {
-            for row in at.used_rows(self.rows) {
-                visitor.visit(*row);
-            }
+        for row in self.rows_in(table) {
+            visitor.visit(*row);
         }
     }
 

@@ -21,9 +21,8 @@ impl Stretch {
         requires { Lies rows.now self.now }
         ensures { result.now ≡ take self.now.fill.used (part rows.now self.now) }
     {
-        let from = self.from;
-        let end = from + self.fill.used;
-        &rows[from..end]
+        let end = self.from + self.fill.used;
+        &rows[self.from..end]
     }
 
     // The places of the stretch among the lent rows.
@@ -42,14 +41,12 @@ impl Stretch {
         self.fill.add(&mut rows[places], first, second)
     }
 
-    pub fn replace(self, rows: &mut [Row], place: usize, first: i32, second: i32) -> bool
-        requires { Lies rows.old self }
-        ensures { Rewritten (Alone (λ ts n. replacing ts n place first second) result) self self rows.old rows.new }
+    pub fn replace(&self, rows: &mut [Row], place: usize, first: i32, second: i32) -> bool
+        requires { Lies rows.old self.now }
+        ensures { Rewritten (Alone (λ ts n. replacing ts n place first second) result) self.now self.now rows.old rows.new }
     {
-        let from = self.from;
-        let end = from + self.limit;
-        self.fill
-            .replace(&mut rows[from..end], place, first, second)
+        let places = self.places();
+        self.fill.replace(&mut rows[places], place, first, second)
     }
 
     pub fn remove(&mut self, rows: &mut [Row], place: usize) -> bool
