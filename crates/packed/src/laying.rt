@@ -13,13 +13,13 @@ pub fn lay_out<const N: usize>(plan: &Plan<N>) -> ArrayVec<Stretch, 8>
 {
     let mut stretches = ArrayVec::new();
     let mut from = 0;
-    for limit in plan.limits() {
+    for &limit in plan.limits() {
         stretches.push(Stretch {
             from,
-            limit: *limit,
+            limit,
             fill: Fill::default(),
         });
-        from += *limit;
+        from += limit;
     }
     stretches
 }
