@@ -7,20 +7,9 @@ use Rattle.stores.specs.Layout.{new_tables}
 use Rattle.packed.specs.declared.stretch.Stretch.{Stretch}
 use Rattle.packed.specs.Stretches.{table_in, tables_of, InOrder, empty_stretches}
 
-abbrev empty : ℕ → ℕ → Stretch
-empty from limit = record { from = from; limit = limit; fill = record { used = 0; given = 0 } }
-
-empty_push : (start : ℕ) (ls : List ℕ) (l : ℕ) → empty_stretches start (ls ++ l ∷ []) ≡ empty_stretches start ls ++ empty (start + sum ls) l ∷ []
-empty_push start [] l = rw add-zero
-empty_push start (x ∷ ls) l = rw (sum_by-cons (λ n. n) x ls, ← add_assoc) (ap (λ ss. empty start x ∷ ss) (empty_push (start + x) ls l))
-
 pub length_empty : (start : ℕ) (ls : List ℕ) → length (empty_stretches start ls) ≡ length ls
 length_empty start [] = refl
 length_empty start (l ∷ ls) = ap suc (length_empty (start + l) ls)
-
--- one stretch more
-pub empty_more : (ls : List ℕ) (i from : ℕ) → i < length ls → from ≡ sum (take i ls) → empty_stretches 0 (take i ls) ++ empty from (get_or ls i 0) ∷ [] ≡ empty_stretches 0 (take (i + 1) ls)
-empty_more ls i from h f = rw (f, take_more ls i 0 h, empty_push, zero-add)
 
 -- as many rows lent as the limits come to
 pub empty_laid : (start : ℕ) (ls : List ℕ) (rows : List Row) → start + sum ls ≤ length rows → InOrder start rows (empty_stretches start ls) × (map (table_in rows) (empty_stretches start ls) ≡ new_tables ls)

@@ -1,10 +1,10 @@
 -- What a packed store means at one table, before and after that table's stretch is rewritten. Assumes nothing.
-use Rattle.std.proofs.Common.{◌≡◌, ℕ, ◌+◌, ◌<◌, ◌≤◌, List, length, get_or, take, drop, set, Some, None, MutBor, refl, arith, length-drop}
+use Rattle.std.proofs.Common.{◌≡◌, ℕ, ◌≤◌, List, length, take, drop, set, Some, None, MutBor, refl, arith, length-drop}
 use Rattle.std.specs.List.{slice_get, IsItemAtMut}
-use Rattle.std.proofs.lemmas.List.{get_or-take, get_or-drop, length-take-le}
-use Rattle.std.proofs.lemmas.Option.{slice_get-get_or, slice_get-map, slice_get_past, slice_get_read}
+use Rattle.std.proofs.lemmas.List.{length-take-le}
+use Rattle.std.proofs.lemmas.Option.{slice_get-map, slice_get_read}
 use Rattle.stores.specs.declared.rows.Row.{Row}
-use Rattle.stores.specs.Tables.{Table, row_count, row_at}
+use Rattle.stores.specs.Tables.{Table, row_count}
 use Rattle.stores.specs.Changes.{Changed, changed}
 use Rattle.stores.proofs.Local.{Local}
 use Rattle.packed.specs.declared.stretch.Stretch.{Stretch}
@@ -40,21 +40,14 @@ module _ (p : Packed) (n : ℕ) where
     length_part : length (part rows s) ≡ s.limit
     length_part = length-take-le s.limit (drop s.from rows) (simp length-drop (omega (arith, lies_there.fits)))
 
-    length_rows : length (take s.fill.used (part rows s)) ≡ s.fill.used
-    length_rows = length-take-le s.fill.used (part rows s) (omega (arith, lies_there.within, length_part))
-
     pub count_there : Some s.fill.used ≡ row_count tables n
-    count_there = rw (table_there, length_rows)
+    count_there =
+        let within : s.fill.used ≤ length (part rows s) = omega (arith, lies_there.within, length_part) in
+        rw (table_there, length-take-le s.fill.used (part rows s) within)
 
     -- the stretch rewritten by a change, whichever that is
     module _ {A : Type 0} (change : List Table → ℕ → Changed A) (local : Local change) (answer : A) (at : Stretch) (after : List Row) (w : Rewritten (Alone change answer) s at rows after) where
-      rewritten : InOrder 0 after (set stretches n at) × (changed answer (tables_of after (set stretches n at)) ≡ change tables n)
+      pub rewritten : InOrder 0 after (set stretches n at) × (changed answer (tables_of after (set stretches n at)) ≡ change tables n)
       rewritten =
           let r = refills rows s at.fill w.new lies_there.fits w.long w.within (local.sound answer _ _ w.takes lies_there.sound) 0 stretches n there order in
           rw (w.rest, w.place) (r.0, rw r.1 (local.among answer tables n (table_in rows s) (held w.new at.fill) table_there w.takes))
-
-      pub order_after : InOrder 0 after (set stretches n at)
-      order_after = rewritten.0
-
-      pub change_after : changed answer (tables_of after (set stretches n at)) ≡ change tables n
-      change_after = rewritten.1

@@ -1,7 +1,7 @@
 use Rattle.std.proofs.Common.{length-set}
 use Rattle.stores.proofs.Limits.{sweep_limits}
 use Rattle.stores.proofs.Local.{sweeping_local}
-use Rattle.packed.proofs.Meaning.{lent_there, lies_there, order_after, change_after}
+use Rattle.packed.proofs.Meaning.{lent_there, lies_there, rewritten}
 use Rattle.packed.proofs.packed.PackedStore.sweep.Goals as goal
 
 pub sweep-requires : goal.sweep-requires
@@ -9,10 +9,10 @@ sweep-requires g c = lies_there c.args.self.now c.args.table c.in-Some.at.now (l
 
 pub invariant_of-self-2 : goal.invariant_of-self-2
 invariant_of-self-2 g c =
-    let o = order_after c.args.self.now c.args.table c.in-Some.at.now (lent_there _ _ c.in-Some.at c.in-Some.ensures.item) _ (sweeping_local (g.E.Edit.decides c.args.editor.now)) _ _ _ c.sweep.ensures in
+    let o = (rewritten c.args.self.now c.args.table c.in-Some.at.now (lent_there _ _ c.in-Some.at c.in-Some.ensures.item) _ (sweeping_local (g.E.Edit.decides c.args.editor.now)) _ _ _ c.sweep.ensures).0 in
     record { few = rw length-set c.args.self.now.few; order = ∣ o ∣₁ }
 
 pub returns : goal.returns
 returns g c =
-    let e = change_after c.args.self.now c.args.table c.in-Some.at.now (lent_there _ _ c.in-Some.at c.in-Some.ensures.item) _ (sweeping_local (g.E.Edit.decides c.args.editor.now)) _ _ _ c.sweep.ensures in
+    let e = (rewritten c.args.self.now c.args.table c.in-Some.at.now (lent_there _ _ c.in-Some.at c.in-Some.ensures.item) _ (sweeping_local (g.E.Edit.decides c.args.editor.now)) _ _ _ c.sweep.ensures).1 in
     record { change = e; limits = sweep_limits _ c.args.table _ _ (g.E.Edit.decides c.args.editor.now) e }
