@@ -62,8 +62,7 @@ impl Fill {
         ensures change { Alone (sweeping (E.Edit.decides editor.now)) result (held rows.old self.old) (held rows.new self.new) }
         ensures within { self.new.used ≤ length rows.new }
     {
-        let used = self.used;
-        let Compacted { kept, touched } = compact(&mut rows[0..used], editor);
+        let Compacted { kept, touched } = compact(&mut rows[..self.used], editor);
         self.used = kept;
         touched
     }

@@ -69,9 +69,7 @@ impl<'a> Store for Packed<'a> {
     }
 
     fn add(&mut self, table: usize, first: i32, second: i32) -> Result<u32, AddRefusal> {
-        let Some(at) = self.stretches.get_mut(table) else {
-            return Err(AddRefusal::NoTable);
-        };
+        let at = self.stretches.get_mut(table).ok_or(AddRefusal::NoTable)?;
         at.add(self.rows, first, second)
     }
 
