@@ -51,8 +51,7 @@ impl Fill {
         if place >= self.used {
             return false;
         }
-        let next = place + 1;
-        rows.copy_within(next..self.used, place);
+        rows.copy_within(place + 1..self.used, place);
         self.used -= 1;
         true
     }
@@ -75,7 +74,7 @@ struct Compacted {
     touched: usize,
 }
 
-// A pass over all rows. Those that are kept are written in front, never ahead of the row that is read.
+// A pass over all rows, in place by index since a slice has no `retain`: those that stay are written in front, never ahead of the row that is read.
 fn compact<E: Edit>(rows: &mut [Row], editor: &E) -> Compacted
     ensures kept { take result.kept rows.new ≡ edited (E.Edit.decides editor.now) rows.old }
     ensures few { result.kept ≤ length rows.old }

@@ -13,6 +13,7 @@ use arrayvec::ArrayVec;
 use stores::{AddRefusal, Edit, Plan, Row, Store, Visit};
 
 // Tables over lent rows. Each has a stretch of its own, and a removal moves the later rows of the stretch down.
+// A proof sees the items of an ArrayVec and not its capacity, so the bound on their number is a fact of its own.
 #[derive(Drop)]
 pub struct Packed<'a> {
     rows: &'a mut [Row],
@@ -88,8 +89,8 @@ impl<'a> Store for Packed<'a> {
     }
 
     fn walk<V: Visit>(&self, table: usize, visitor: &mut V) {
-        for row in self.rows_in(table) {
-            visitor.visit(*row);
+        for &row in self.rows_in(table) {
+            visitor.visit(row);
         }
     }
 

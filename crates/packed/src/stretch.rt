@@ -21,8 +21,7 @@ impl Stretch {
         requires { Lies rows.now self.now }
         ensures { result.now ≡ take self.now.fill.used (part rows.now self.now) }
     {
-        let end = self.from + self.fill.used;
-        &rows[self.from..end]
+        &rows[self.from..self.from + self.fill.used]
     }
 
     // The places of the stretch among the lent rows.
