@@ -1,6 +1,6 @@
 -- Stretches laid out one by one. Assumes nothing.
-use Rattle.std.proofs.Common.{◌≡◌, ℕ, suc, ◌+◌, ◌<◌, ◌≤◌, List, [], ◌∷◌, ◌++◌, map, length, get_or, take, drop, sum, refl, ap, add-zero, add_assoc, zero-add, arith, length-drop}
-use Rattle.std.proofs.lemmas.List.{length-take-le, take_more}
+use Rattle.std.proofs.Common.{◌≡◌, ℕ, suc, ◌+◌, ◌≤◌, List, [], ◌∷◌, map, length, take, drop, sum, refl, ap, arith, length-drop}
+use Rattle.std.proofs.lemmas.List.{length-take-le}
 use Rattle.std.proofs.lemmas.List.Sums.{sum_by-cons}
 use Rattle.stores.specs.declared.rows.Row.{Row}
 use Rattle.stores.specs.Layout.{new_tables}
@@ -12,7 +12,7 @@ length_empty start [] = refl
 length_empty start (l ∷ ls) = ap suc (length_empty (start + l) ls)
 
 -- as many rows lent as the limits come to
-pub empty_laid : (start : ℕ) (ls : List ℕ) (rows : List Row) → start + sum ls ≤ length rows → InOrder start rows (empty_stretches start ls) × (map (table_in rows) (empty_stretches start ls) ≡ new_tables ls)
+empty_laid : (start : ℕ) (ls : List ℕ) (rows : List Row) → start + sum ls ≤ length rows → InOrder start rows (empty_stretches start ls) × (map (table_in rows) (empty_stretches start ls) ≡ new_tables ls)
 empty_laid start [] rows h = (tt, refl)
 empty_laid start (l ∷ ls) rows h =
     let s : sum (l ∷ ls) ≡ l + sum ls = sum_by-cons (λ n. n) l ls in

@@ -1,5 +1,5 @@
 -- What a packed store means at one table, before and after that table's stretch is rewritten. Assumes nothing.
-use Rattle.std.proofs.Common.{◌≡◌, ℕ, ◌≤◌, List, length, take, drop, set, Some, None, MutBor, refl, arith, length-drop}
+use Rattle.std.proofs.Common.{◌≡◌, ℕ, ◌≤◌, List, length, drop, set, Some, MutBor, refl, arith, length-drop}
 use Rattle.std.specs.List.{slice_get, IsItemAtMut}
 use Rattle.std.proofs.lemmas.List.{length-take-le}
 use Rattle.std.proofs.lemmas.Option.{slice_get-map, slice_get_read}
