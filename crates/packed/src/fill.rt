@@ -74,7 +74,8 @@ struct Compacted {
     touched: usize,
 }
 
-// A pass over all rows, in place by index since a slice has no `retain`: those that stay are written in front, never ahead of the row that is read.
+// A pass over all rows. Those that stay are written in front, never ahead of the row that is read.
+// They are moved by index, since a slice has no `retain`.
 fn compact<E: Edit>(rows: &mut [Row], editor: &E) -> Compacted
     ensures kept { take result.kept rows.new ≡ edited (E.Edit.decides editor.now) rows.old }
     ensures few { result.kept ≤ length rows.old }
