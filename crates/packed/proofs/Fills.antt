@@ -9,7 +9,7 @@ use Rattle.stores.specs.declared.rows.Row.{Row}
 use Rattle.stores.specs.declared.rows.Fate.{Fate}
 use Rattle.stores.specs.Tables.{key_limit}
 use Rattle.stores.specs.Changes.{row, adding, replacing, without, removing, edited, touched, sweeping}
-use Rattle.packed.specs.declared.stretch.Fill.{Fill}
+use Rattle.packed.specs.declared.fill.Fill.{Fill}
 use Rattle.packed.specs.Stretches.{held, Alone}
 
 abbrev blank : Row
@@ -24,14 +24,14 @@ module _ (rows : List Row) (fill : Fill) (within : fill.used ≤ length rows) wh
   added f s room few = rw (count_is, lt-leb (length rows) fill.used room, lt-leb key_limit fill.given few, length-set, take_more_set rows fill.used (row (fill.given + 1) f s) room)
 
   -- the used rows alone were passed over
-  module _ (fate : Row → Fate) (used kept count : ℕ) (new : List Row) (all : used ≡ fill.used) (long : length new ≡ length (take used rows)) (few : kept ≤ length (take used rows)) where
-    pub swept : take kept new ≡ edited fate (take used rows) → count ≡ touched fate (take used rows) →
-        Alone (sweeping fate) count (held rows fill) (held (new ++ drop used rows) (record { used = kept; given = fill.given }))
+  module _ (fate : Row → Fate) (kept count : ℕ) (new : List Row) (long : length new ≡ length (take fill.used rows)) (few : kept ≤ length (take fill.used rows)) where
+    pub swept : take kept new ≡ edited fate (take fill.used rows) → count ≡ touched fate (take fill.used rows) →
+        Alone (sweeping fate) count (held rows fill) (held (new ++ drop fill.used rows) (record { used = kept; given = fill.given }))
     swept e c =
-        let l : length (new ++ drop used rows) ≡ length rows = simp (length-append, length-drop) (omega (arith, length-take used rows)) in
-        rw (l, take-append-le kept new (drop used rows) (omega arith), e, c, all)
+        let l : length (new ++ drop fill.used rows) ≡ length rows = simp (length-append, length-drop) (omega (arith, count_is)) in
+        rw (l, take-append-le kept new (drop fill.used rows) (omega arith), e, c)
 
-    pub swept_within : kept ≤ length (new ++ drop used rows)
+    pub swept_within : kept ≤ length (new ++ drop fill.used rows)
     swept_within = simp length-append (omega arith)
 
   module _ (place : ℕ) where

@@ -5,7 +5,7 @@ use Rattle.std.proofs.lemmas.List.{drop-take, drop_at, take_at, length-take-le}
 use Rattle.std.proofs.lemmas.Slice.{take-put_mid_below, drop-put_mid}
 use Rattle.stores.specs.declared.rows.Row.{Row}
 use Rattle.stores.specs.Tables.{SoundTable}
-use Rattle.packed.specs.declared.stretch.Fill.{Fill}
+use Rattle.packed.specs.declared.fill.Fill.{Fill}
 use Rattle.packed.specs.declared.stretch.Stretch.{Stretch}
 use Rattle.packed.specs.Stretches.{held, part, table_in, Lies, InOrder, spliced}
 
@@ -16,11 +16,6 @@ lies_at start rows (x ∷ ss) zero s e o = let same : x ≡ s = cc in subst (λ 
 lies_at start rows (x ∷ ss) (suc n) s e o =
     let later = lies_at (x.from + x.limit) rows ss n s e o.2 in
     (omega (arith, o.0, later.0), later.1)
-
-pub table_at : (rows : List Row) (ss : List Stretch) (n : ℕ) (s : Stretch) → slice_get ss n ≡ Some s → slice_get (map (table_in rows) ss) n ≡ Some (table_in rows s)
-table_at rows [] n s e = let z : ◌≡◌ {A = ℕ} 0 1 = cc in absurd (omega arith)
-table_at rows (x ∷ ss) zero s e = let same : x ≡ s = cc in rw same
-table_at rows (x ∷ ss) (suc n) s e = table_at rows ss n s e
 
 abbrev pub refilled : Stretch → Fill → Stretch
 refilled s fill = record { from = s.from; limit = s.limit; fill = fill }

@@ -1,8 +1,8 @@
 -- Stretches that lie in order mean sound tables. Assumes nothing.
-use Rattle.std.specs.Prelude.{ℕ, ◌+◌, ◌≤◌, List, [], ◌∷◌, map, take}
+use Rattle.std.specs.Prelude.{ℕ, ◌+◌, ◌≤◌, List, [], ◌∷◌, map, length}
 use Rattle.std.proofs.Math.Logic.{∥∥₁_elim, ∥∥₁_prop}
 use Rattle.std.proofs.Math.Bridge.{le_prop}
-use Rattle.std.proofs.Common.{arith, length-take}
+use Rattle.std.proofs.Common.{arith}
 use Rattle.std.proofs.Props.{props}
 use denote.Struct.Record.{Done-prop}
 use Rattle.std.proofs.lemmas.List.{length-map}
@@ -33,8 +33,8 @@ sound_tables : (start : ℕ) (rows : List Row) (ss : List Stretch) → InOrder s
 sound_tables start rows [] o = tt
 sound_tables start rows (s ∷ ss) o = (o.1.sound, sound_tables (s.from + s.limit) rows ss o.2)
 
-pub sound_store : (rows : List Row) (stretches : List Stretch) (count : ℕ) → count ≤ 8 → ∥ InOrder 0 rows (take count stretches) ∥₁ → Sound (tables_of rows stretches count)
-sound_store rows stretches count few o = record {
-  few = simp (length-map, length-take) (omega arith);
-  tables = sound_tables 0 rows (take count stretches) (opened 0 rows (take count stretches) o);
+pub sound_store : (rows : List Row) (stretches : List Stretch) → length stretches ≤ 8 → ∥ InOrder 0 rows stretches ∥₁ → Sound (tables_of rows stretches)
+sound_store rows stretches few o = record {
+  few = simp length-map (omega arith);
+  tables = sound_tables 0 rows stretches (opened 0 rows stretches o);
 }

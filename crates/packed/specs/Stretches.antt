@@ -3,7 +3,7 @@ use Rattle.std.specs.Prelude.{◌≡◌, ℕ, ◌+◌, ◌≤◌, List, [], ◌�
 use Rattle.stores.specs.declared.rows.Row.{Row}
 use Rattle.stores.specs.Tables.{Table, SoundTable}
 use Rattle.stores.specs.Changes.{Changed, changed}
-use Rattle.packed.specs.declared.stretch.Fill.{Fill}
+use Rattle.packed.specs.declared.fill.Fill.{Fill}
 use Rattle.packed.specs.declared.stretch.Stretch.{Stretch}
 
 -- The table in the rows of one stretch, as far as they are filled.
@@ -18,9 +18,9 @@ part rows s = take s.limit (drop s.from rows)
 abbrev pub table_in : List Row → Stretch → Table
 table_in rows s = held (part rows s) s.fill
 
--- The tables of the stretches in use: what a packed store means.
-abbrev pub tables_of : List Row → List Stretch → ℕ → List Table
-tables_of rows stretches count = map (table_in rows) (take count stretches)
+-- The tables of all stretches: what a packed store means.
+abbrev pub tables_of : List Row → List Stretch → List Table
+tables_of rows stretches = map (table_in rows) stretches
 
 -- A stretch lies within the rows lent, is filled within its limit, and its table is sound.
 pub record Lies (rows : List Row) (s : Stretch) : Type 0 where
@@ -41,12 +41,13 @@ spliced rows s new = take s.from rows ++ (new ++ drop s.limit (drop s.from rows)
 abbrev pub Alone : {A : Type 0} → (List Table → ℕ → Changed A) → A → Table → Table → Type 0
 Alone change answer t u = changed answer (u ∷ []) ≡ change (t ∷ []) 0
 
--- No row outside of a stretch was written, and its table was taken to another.
-pub record Rewritten (Takes : Table → Table → Type 0) (s : Stretch) (fill : Fill) (before after : List Row) : Type 0 where
+-- No row outside of a stretch was written, and its table was taken to that of a stretch at the same place.
+pub record Rewritten (Takes : Table → Table → Type 0) (s t : Stretch) (before after : List Row) : Type 0 where
   pub new : List Row
   pub long : length new ≡ s.limit
-  pub within : fill.used ≤ s.limit
-  pub takes : Takes (table_in before s) (held new fill)
+  pub place : t ≡ record s { fill = t.fill }
+  pub within : t.fill.used ≤ s.limit
+  pub takes : Takes (table_in before s) (held new t.fill)
   pub rest : after ≡ spliced before s new
 
 -- Stretches for limits, one behind the other from a place on, with no row and no key given.

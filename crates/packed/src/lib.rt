@@ -1,8 +1,8 @@
 // A store whose tables each have a stretch of one list of lent rows.
 #![tactic(auto)]
 
+mod fill;
 mod laying;
-mod lent;
 mod packed;
 mod stretch;
 #[cfg(test)]

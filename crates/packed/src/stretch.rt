@@ -1,140 +1,66 @@
-// The stretch of one table: each function changes its rows as if the table stood alone.
-ghost use Rattle.std.specs.Prelude.{◌≡◌, ◌≤◌, length, take, fold};
-ghost use Rattle.stores.specs.Changes.{adding, replacing, removing, sweeping, edited, touched};
-ghost use Rattle.packed.specs.Stretches.{Alone, held};
+// The stretch of one table in the lent rows. No method writes a row outside of it.
+ghost use Rattle.std.specs.Prelude.{◌≡◌, ◌+◌, ◌≤◌, take};
+ghost use Rattle.stores.specs.Changes.{adding, replacing, removing, sweeping};
+ghost use Rattle.packed.specs.Stretches.{Alone, Lies, Rewritten, part};
 
-use stores::{AddRefusal, Edit, Fate, Row, Visit};
-
-// How many rows of a stretch are used, and how many keys were given in it.
-#[derive(Clone, Copy)]
-pub struct Fill {
-    pub used: usize,
-    pub given: u32,
-}
+use crate::fill::Fill;
+use std::ops::Range;
+use stores::{AddRefusal, Edit, Row};
 
 // Where a stretch lies in the lent rows, and how far it is filled.
-#[derive(Clone, Copy)]
+#[derive(Clone, Copy, Default)]
 pub struct Stretch {
     pub from: usize,
     pub limit: usize,
     pub fill: Fill,
 }
 
-// How many rows a pass leaves, and how many it rewrote or removed.
-#[derive(Clone, Copy)]
-pub struct Compacted {
-    pub kept: usize,
-    pub touched: usize,
-}
+impl Stretch {
+    // The rows of the stretch, as far as they are filled.
+    pub fn used_rows<'r>(&self, rows: &'r [Row]) -> &'r [Row]
+        requires { Lies rows.now self.now }
+        ensures { result.now ≡ take self.now.fill.used (part rows.now self.now) }
+    {
+        &rows[self.from..self.from + self.fill.used]
+    }
 
-pub fn visit_each<V: Visit>(rows: &[Row], visitor: &mut V)
-    ensures { visitor.new ≡ fold V.Visit.step visitor.old rows.now }
-{
-    for row in rows {
-        visitor.visit(*row);
+    // The places of the stretch among the lent rows.
+    fn places(&self) -> Range<usize>
+        requires { self.now.from + self.now.limit ≤ usize.MAX }
+        ensures { result ≡ record { start = self.now.from; end = self.now.from + self.now.limit } }
+    {
+        self.from..self.from + self.limit
     }
-}
 
-pub fn add(rows: &mut [Row], fill: Fill, first: i32, second: i32) -> (Result<u32, AddRefusal>, Fill)
-    requires { fill.used ≤ length rows.old }
-    ensures change { Alone (λ ts n. adding ts n first second) result.0 (held rows.old fill) (held rows.new result.1) }
-    ensures within { result.1.used ≤ length rows.new }
-{
-    if fill.used >= rows.len() {
-        return (Err(AddRefusal::TableFull), fill);
+    pub fn add(&mut self, rows: &mut [Row], first: i32, second: i32) -> Result<u32, AddRefusal>
+        requires { Lies rows.old self.old }
+        ensures { Rewritten (Alone (λ ts n. adding ts n first second) result) self.old self.new rows.old rows.new }
+    {
+        let places = self.places();
+        self.fill.add(&mut rows[places], first, second)
     }
-    if fill.given >= 1_000_000 {
-        return (Err(AddRefusal::KeysSpent), fill);
-    }
-    let key = fill.given + 1;
-    rows[fill.used] = Row { key, first, second };
-    (
-        Ok(key),
-        Fill {
-            used: fill.used + 1,
-            given: key,
-        },
-    )
-}
 
-pub fn replace(rows: &mut [Row], fill: Fill, place: usize, first: i32, second: i32) -> bool
-    requires { fill.used ≤ length rows.old }
-    ensures { Alone (λ ts n. replacing ts n place first second) result (held rows.old fill) (held rows.new fill) }
-{
-    if place >= fill.used {
-        return false;
+    pub fn replace(&self, rows: &mut [Row], place: usize, first: i32, second: i32) -> bool
+        requires { Lies rows.old self.now }
+        ensures { Rewritten (Alone (λ ts n. replacing ts n place first second) result) self.now self.now rows.old rows.new }
+    {
+        let places = self.places();
+        self.fill.replace(&mut rows[places], place, first, second)
     }
-    let key = rows[place].key;
-    rows[place] = Row { key, first, second };
-    true
-}
 
-pub fn remove(rows: &mut [Row], fill: Fill, place: usize) -> (bool, Fill)
-    requires { fill.used ≤ length rows.old }
-    ensures change { Alone (λ ts n. removing ts n place) result.0 (held rows.old fill) (held rows.new result.1) }
-    ensures within { result.1.used ≤ length rows.new }
-{
-    if place >= fill.used {
-        return (false, fill);
+    pub fn remove(&mut self, rows: &mut [Row], place: usize) -> bool
+        requires { Lies rows.old self.old }
+        ensures { Rewritten (Alone (λ ts n. removing ts n place) result) self.old self.new rows.old rows.new }
+    {
+        let places = self.places();
+        self.fill.remove(&mut rows[places], place)
     }
-    let next = place + 1;
-    rows.copy_within(next..fill.used, place);
-    (
-        true,
-        Fill {
-            used: fill.used - 1,
-            given: fill.given,
-        },
-    )
-}
 
-// A pass over all rows, with a place that is read and one, never ahead of it, that is written.
-fn compact<E: Edit>(rows: &mut [Row], editor: &E) -> Compacted
-    ensures kept { take result.kept rows.new ≡ edited (E.Edit.decides editor.now) rows.old }
-    ensures few { result.kept ≤ length rows.old }
-    ensures count { result.touched ≡ touched (E.Edit.decides editor.now) rows.old }
-{
-    let mut written = 0;
-    let mut touched = 0;
-    for read in 0..rows.len() {
-        let row = rows[read];
-        match editor.decide(row) {
-            Fate::Keep => {
-                rows[written] = row;
-                written += 1;
-            }
-            Fate::Rewrite(first, second) => {
-                rows[written] = Row {
-                    key: row.key,
-                    first,
-                    second,
-                };
-                written += 1;
-                touched += 1;
-            }
-            Fate::Remove => {
-                touched += 1;
-            }
-        }
+    pub fn sweep<E: Edit>(&mut self, rows: &mut [Row], editor: &E) -> usize
+        requires { Lies rows.old self.old }
+        ensures { Rewritten (Alone (sweeping (E.Edit.decides editor.now)) result) self.old self.new rows.old rows.new }
+    {
+        let places = self.places();
+        self.fill.sweep(&mut rows[places], editor)
     }
-    Compacted {
-        kept: written,
-        touched,
-    }
-}
-
-pub fn sweep<E: Edit>(rows: &mut [Row], fill: Fill, editor: &E) -> (usize, Fill)
-    requires { fill.used ≤ length rows.old }
-    ensures change { Alone (sweeping (E.Edit.decides editor.now)) result.0 (held rows.old fill) (held rows.new result.1) }
-    ensures within { result.1.used ≤ length rows.new }
-{
-    let used = fill.used;
-    let done = compact(&mut rows[0..used], editor);
-    (
-        done.touched,
-        Fill {
-            used: done.kept,
-            given: fill.given,
-        },
-    )
 }

@@ -17,12 +17,9 @@ const GARBAGE: Row = Row {
 type Adding = (usize, i32, i32, Result<u32, u8>);
 
 fn check_adds(rt: &impl Abort, store: &mut Packed, adds: &[Adding]) {
-    for (table, first, second, expected) in adds {
-        let answer = match store.add(*table, *first, *second) {
-            Ok(key) => Ok(key),
-            Err(refusal) => Err(refusal.number()),
-        };
-        assert_eq!(rt; answer, *expected);
+    for &(table, first, second, expected) in adds {
+        let answer = store.add(table, first, second);
+        assert_eq!(rt; answer.map_err(|refusal| refusal.number()), expected);
     }
 }
 
@@ -30,12 +27,9 @@ fn check_adds(rt: &impl Abort, store: &mut Packed, adds: &[Adding]) {
 type Reading = (usize, usize, Option<(u32, i32, i32)>);
 
 fn check_rows(rt: &impl Abort, store: &Packed, readings: &[Reading]) {
-    for (table, place, expected) in readings {
-        let row = match store.row(*table, *place) {
-            Some(row) => Some((row.key, row.first, row.second)),
-            None => None,
-        };
-        assert_eq!(rt; row, *expected);
+    for &(table, place, expected) in readings {
+        let row = store.row(table, place);
+        assert_eq!(rt; row.map(|row| (row.key, row.first, row.second)), expected);
     }
 }
 

@@ -1,27 +1,24 @@
-use Rattle.std.proofs.Common.{take, sym, refl, ap, ◌∙◌, subst, to_z-of_z}
+use Rattle.std.proofs.Common.{sym, ap, ◌∙◌, subst, to_z-of_z}
 use Rattle.stores.specs.Changes.{changed}
 use Rattle.stores.proofs.Limits.{replace_limits}
-use Rattle.stores.proofs.Local.{none_replacing, replacing_local}
+use Rattle.stores.proofs.Local.{replacing_local}
+use Rattle.stores.proofs.Puts.{set_nth}
 use Rattle.packed.specs.Stretches.{tables_of, InOrder}
-use Rattle.packed.proofs.Meaning.{no_table, lies_there, same_stretches, order_after, change_after}
+use Rattle.packed.proofs.Meaning.{lies_there, rewritten}
 use Rattle.packed.proofs.packed.PackedStore.replace.Goals as goal
 
-pub returns-then-table-self : goal.returns-then-table-self
-returns-then-table-self c =
-    record { change = none_replacing _ c.args.table (no_table c.args.self.now c.args.table c.if-table-self.true) c.args.place c.args.first c.args.second; limits = refl }
-
 pub replace-requires : goal.replace-requires
-replace-requires c = lies_there c.args.self.now c.args.table c.if-table-self.false
+replace-requires c = lies_there c.args.self.now c.args.table c.in-Some.at (sym c.in-Some.ensures)
 
 pub invariant_of-self : goal.invariant_of-self
 invariant_of-self c =
     let p = c.args.self.now in
-    let o = order_after p c.args.table c.if-table-self.false _ (replacing_local c.args.place c.args.first c.args.second) _ _ _ (simp (to_z-of_z c.ranges.first, to_z-of_z c.ranges.second) at c.replace.ensures) in
-    record { room = p.room; few = p.few; order = ∣ subst (λ ss. InOrder 0 c.replace.new.self.rows.now (take p.count ss)) (same_stretches p c.args.table) o ∣₁ }
+    let o = (rewritten p c.args.table c.in-Some.at (sym c.in-Some.ensures) _ (replacing_local c.args.place c.args.first c.args.second) _ _ _ (simp (to_z-of_z c.ranges.first, to_z-of_z c.ranges.second) at c.replace.ensures)).0 in
+    record { few = p.few; order = ∣ subst (λ ss. InOrder 0 c.replace.new.rows ss) (set_nth p.stretches.items c.args.table c.in-Some.at (sym c.in-Some.ensures)) o ∣₁ }
 
 pub returns : goal.returns
 returns c =
     let p = c.args.self.now in
-    let e = ap (λ ss. changed c.replace.result (tables_of c.replace.new.self.rows.now ss p.count)) (sym (same_stretches p c.args.table)) ∙
-    change_after p c.args.table c.if-table-self.false _ (replacing_local c.args.place c.args.first c.args.second) _ _ _ (simp (to_z-of_z c.ranges.first, to_z-of_z c.ranges.second) at c.replace.ensures) in
+    let e = ap (λ ss. changed c.replace.result (tables_of c.replace.new.rows ss)) (sym (set_nth p.stretches.items c.args.table c.in-Some.at (sym c.in-Some.ensures))) ∙
+    (rewritten p c.args.table c.in-Some.at (sym c.in-Some.ensures) _ (replacing_local c.args.place c.args.first c.args.second) _ _ _ (simp (to_z-of_z c.ranges.first, to_z-of_z c.ranges.second) at c.replace.ensures)).1 in
     record { change = e; limits = replace_limits _ c.args.table _ _ c.args.place c.args.first c.args.second e }

@@ -1,5 +1,0 @@
-use Rattle.packed.proofs.Compacts.{Halfway}
-use Rattle.packed.proofs.stretch.compact.Given as goal
-
-abbrev pub invariant-loop-read : goal.invariant-loop-read
-invariant-loop-read g l = Halfway (g.E.Edit.decides l.editor) l.initial.rows l.rows l.written l.touched l.read
