@@ -11,14 +11,13 @@ use stores::{Row, Store};
 use tables::{Place, TableRecord};
 use wording::show_to;
 
-// A request and what is seen of its answer, with its rows from a place on; none where the request is not seen at all.
+// A request and what is seen of its answer, with the rows that fill the first places; none where it is not seen at all.
 fn show_served(
     heap: Global,
     observer: Rung,
     request: Request<Rung>,
     event: Event<Rung>,
     places: &[Place<Rung>],
-    start: usize,
 ) -> Result<Option<String>, AllocError> {
     let asked = show_to(observer, view_request(observer, request));
     let answer = match view_event(observer, request.ask, event) {
@@ -33,7 +32,7 @@ fn show_served(
     };
     let mut line = format!(in heap; "{asked} -> {}", show_to(observer, answer))?;
     if let Ok(Answer::Filled(count)) = answer {
-        for place in places.iter().skip(start).take(count) {
+        for place in places.iter().take(count) {
             write!(
                 line,
                 "; {}",
@@ -50,15 +49,14 @@ pub fn show_history(
     observer: Rung,
     requests: &[Request<Rung>],
     events: &[Event<Rung>],
-    places: &[Place<Rung>],
+    mut places: &[Place<Rung>],
 ) -> Result<Vec<String>, AllocError> {
     let mut lines = Vec::new(heap);
-    let mut start: usize = 0;
     for (request, event) in requests.iter().zip(events) {
-        if let Some(line) = show_served(heap, observer, *request, *event, places, start)? {
+        if let Some(line) = show_served(heap, observer, *request, *event, places)? {
             lines.push(line)?;
         }
-        start = start.saturating_add(request.ask.room());
+        places = places.get(request.ask.room()..).unwrap_or_default();
     }
     Ok(lines)
 }

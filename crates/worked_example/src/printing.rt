@@ -40,17 +40,16 @@ pub fn print_run<L: Label + fmt::Display>(
     layout: Layout,
     requests: &[Request<L>],
     events: &[Event<L>],
-    places: &[Place<L>],
+    mut places: &[Place<L>],
 ) -> io::Result<()> {
-    let mut start: usize = 0;
     for (i, (request, event)) in requests.iter().zip(events).enumerate() {
         print_event(rt, layout, i + 1, *request, *event)?;
         if let Ok(Answer::Filled(count)) = event.answer {
-            for place in places.iter().skip(start).take(count) {
+            for place in places.iter().take(count) {
                 println!(rt; "       {}", show(*place))?;
             }
         }
-        start = start.saturating_add(request.ask.room());
+        places = places.get(request.ask.room()..).unwrap_or_default();
     }
     Ok(())
 }

@@ -6,14 +6,13 @@ use std::alloc::{AllocError, Global};
 use tables::Place;
 use wording::show_to;
 
-// A line for the request of a number, and one for each row of a selection that is seen, from the start of its places on.
+// A line for the request of a number, and one for each row of a selection that is seen; they fill the first places.
 fn push_event(
     text: &mut String,
     observer: Rung,
     number: usize,
     view: EventView<Rung>,
     places: &[Place<Rung>],
-    start: usize,
 ) -> Result<(), AllocError> {
     match view {
         EventView::Unseen => writeln!(text, "{number:>2}  nothing")?,
@@ -21,7 +20,7 @@ fn push_event(
         EventView::Seen(answer) => writeln!(text, "{number:>2}  {}", show_to(observer, answer))?,
     }
     if let EventView::Seen(Ok(Answer::Filled(count))) = view {
-        for place in places.iter().skip(start).take(count) {
+        for place in places.iter().take(count) {
             writeln!(
                 text,
                 "    {}",
@@ -38,17 +37,16 @@ pub fn show_seen(
     observer: Rung,
     requests: &[Request<Rung>],
     events: &[Event<Rung>],
-    places: &[Place<Rung>],
+    mut places: &[Place<Rung>],
 ) -> Result<String, AllocError> {
     let mut text = String::new(heap);
-    let mut start: usize = 0;
     for (i, (request, event)) in requests.iter().zip(events).enumerate() {
         let number = i + 1;
         if (4..=8).contains(&number) {
             let view = view_event(observer, request.ask, *event);
-            push_event(&mut text, observer, number, view, places, start)?;
+            push_event(&mut text, observer, number, view, places)?;
         }
-        start = start.saturating_add(request.ask.room());
+        places = places.get(request.ask.room()..).unwrap_or_default();
     }
     Ok(text)
 }
