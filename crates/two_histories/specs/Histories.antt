@@ -2,20 +2,19 @@
 use Rattle.std.specs.Prelude.{ℕ, List, [], ◌∷◌, ℤ, pos, neg_ℤ, Some, None}
 use Rattle.labels.specs.declared.Rung.{Rung}
 use Rattle.labels.specs.Rung.{rung, rungs}
-use Rattle.sessions.specs.declared.Sealed.{Sealed}
-use Rattle.sessions.specs.Steps.{closed_session, sealed_value}
+use Rattle.sessions.specs.Steps.{closed_session}
 use Rattle.stores.specs.Layout.{new_tables}
 use Rattle.tables.specs.declared.queries.Range.{Range}
 use Rattle.tables.specs.declared.queries.Predicate.{Predicate}
 use Rattle.tables.specs.declared.queries.Place.{Place}
 use Rattle.tables.specs.declared.records.SecondRule.TheVariants.{Fixed, Own}
 use Rattle.tables.specs.declared.records.TableRecord.{TableRecord}
-use Rattle.monitor.specs.declared.requests.Ask.{Ask}
 use Rattle.monitor.specs.declared.requests.Ask.TheVariants.{Open, Unseal, Select, Insert, Delete, Update}
 use Rattle.monitor.specs.declared.requests.Request.{Request}
 use Rattle.monitor.specs.declared.requests.Event.{Event}
 use Rattle.monitor.specs.Steps.{State, state}
 use Rattle.monitor.specs.Lists.{Listed, serving_all}
+use Rattle.rung_requests.specs.Requests.{asked_of as asks, under as seal, every as all, low_seconds}
 use Rattle.guarantees.specs.Compare.{LookSame}
 
 abbrev pub observer_label : Rung
@@ -34,29 +33,17 @@ table_limits = 3 ∷ 2 ∷ []
 abbrev pub start : State Rung
 start = state (closed_session ∷ closed_session ∷ closed_session ∷ []) (new_tables table_limits)
 
-abbrev pub asks : ℕ → Ask Rung → Request Rung
-asks i a = record { session = i; ask = a }
-
-abbrev pub seal : ℕ → ℤ → Sealed Rung
-seal a v = sealed_value (rung a) v
-
 abbrev pub minus : ℕ → ℤ
 minus n = neg_ℤ (pos n)
 
 abbrev pub range : ℤ → ℤ → Range
 range low high = record { low = low; high = high }
 
-abbrev pub all : Predicate
-all = record { key = None; first = None; second = None }
-
 abbrev pub of_key : ℕ → Predicate
 of_key n = record { key = Some (range (pos n) (pos n)); first = None; second = None }
 
 abbrev pub of_first : ℕ → Predicate
 of_first n = record { key = None; first = Some (range (pos n) (pos n)); second = None }
-
-abbrev pub low_seconds : Predicate
-low_seconds = record { key = None; first = None; second = Some (range (minus 300) (minus 200)) }
 
 abbrev pub left_history : List (Request Rung)
 left_history =

@@ -1,57 +1,27 @@
 // Two histories of requests that differ only in what lies above the observer's label.
 ghost use Rattle.std.specs.Prelude.{◌≡◌, Ok};
-ghost use Rattle.labels.specs.Rung.{own};
-ghost use Rattle.sessions.specs.Steps.{sealed_value};
-ghost use Rattle.monitor.specs.declared.requests.Ask.TheVariants.{Open as OpenAsk, Unseal as UnsealAsk, Select as SelectAsk, Insert as InsertAsk, Delete as DeleteAsk, Update as UpdateAsk};
 ghost use Rattle.monitor.specs.Steps.{state};
 ghost use Rattle.monitor.specs.Lists.{listed};
-ghost use Rattle.two_histories.specs.Histories.{observer_label, table_records, start, asks, left_history, right_history, playing, HistoriesLookSame};
+ghost use Rattle.two_histories.specs.Histories.{observer_label, table_records, start, left_history, right_history, playing, HistoriesLookSame};
 
 use guarantees::serve_both;
-use labels::{Label, Rung};
-use monitor::{Ask, Event, Request, ShortBuffer};
-use sessions::{Sealed, Session};
+use labels::Rung;
+use monitor::{Event, Request, ShortBuffer};
+use rung_requests::predicates::{ALL, KEY_1, LOW_SECONDS};
+use rung_requests::{delete, insert, open, rung, sealed, select, unseal, update};
+use sessions::Session;
 use stores::Store;
 use tables::{Place, Predicate, Range, SecondRule, TableRecord};
 
-const ALL: Predicate = Predicate {
-    key: None,
-    first: None,
-    second: None,
-};
-
-const KEY_1: Predicate = Predicate {
-    key: Some(Range { low: 1, high: 1 }),
-    first: None,
-    second: None,
-};
-
 const KEY_2: Predicate = Predicate {
     key: Some(Range { low: 2, high: 2 }),
-    first: None,
-    second: None,
+    ..ALL
 };
 
 const FIRST_4: Predicate = Predicate {
-    key: None,
     first: Some(Range { low: 4, high: 4 }),
-    second: None,
+    ..ALL
 };
-
-const LOW_SECONDS: Predicate = Predicate {
-    key: None,
-    first: None,
-    second: Some(Range {
-        low: -300,
-        high: -200,
-    }),
-};
-
-fn rung(number: i32) -> Rung
-    ensures { result ≡ own number }
-{
-    <Rung as Label>::own_label(number)
-}
 
 pub fn observer() -> Rung
     ensures { result ≡ observer_label }
@@ -75,73 +45,6 @@ pub fn records() -> [TableRecord<Rung>; 2]
     [wells, assays]
 }
 
-// A label's number and a value.
-fn sealed(value: (i32, i32)) -> Sealed<Rung>
-    ensures { result ≡ sealed_value (own value.0) value.1 }
-{
-    Sealed::new(rung(value.0), value.1)
-}
-
-fn open(session: usize, label: i32, clearance: i32) -> Request<Rung>
-    ensures { result ≡ asks session (OpenAsk (own label) (own clearance)) }
-{
-    Request {
-        session,
-        ask: Ask::Open(rung(label), rung(clearance)),
-    }
-}
-
-fn unseal(session: usize, value: (i32, i32)) -> Request<Rung>
-    ensures { result ≡ asks session (UnsealAsk (sealed_value (own value.0) value.1)) }
-{
-    Request {
-        session,
-        ask: Ask::Unseal(sealed(value)),
-    }
-}
-
-fn select(session: usize, table: usize, predicate: Predicate, places: usize) -> Request<Rung>
-    ensures { result ≡ asks session (SelectAsk table predicate places) }
-{
-    Request {
-        session,
-        ask: Ask::Select(table, predicate, places),
-    }
-}
-
-fn insert(session: usize, table: usize, first: (i32, i32), second: (i32, i32)) -> Request<Rung>
-    ensures { result ≡ asks session (InsertAsk table (sealed_value (own first.0) first.1) (sealed_value (own second.0) second.1)) }
-{
-    Request {
-        session,
-        ask: Ask::Insert(table, sealed(first), sealed(second)),
-    }
-}
-
-fn delete(session: usize, table: usize, predicate: Predicate) -> Request<Rung>
-    ensures { result ≡ asks session (DeleteAsk table predicate) }
-{
-    Request {
-        session,
-        ask: Ask::Delete(table, predicate),
-    }
-}
-
-fn update(
-    session: usize,
-    table: usize,
-    predicate: Predicate,
-    first: (i32, i32),
-    second: (i32, i32),
-) -> Request<Rung>
-    ensures { result ≡ asks session (UpdateAsk table predicate (sealed_value (own first.0) first.1) (sealed_value (own second.0) second.1)) }
-{
-    Request {
-        session,
-        ask: Ask::Update(table, predicate, sealed(first), sealed(second)),
-    }
-}
-
 // Session 2, above the observer, fills table 1.
 pub fn left_requests() -> [Request<Rung>; 17]
     ensures { result ≡ left_history }
@@ -150,20 +53,20 @@ pub fn left_requests() -> [Request<Rung>; 17]
         open(0, 0, 3),
         open(1, 0, 7),
         open(2, 5, 7),
-        insert(1, 0, (1, 4), (4, -250)),
-        insert(2, 1, (4, 60), (6, 900)),
-        insert(1, 0, (0, 2), (2, 35)),
-        insert(2, 1, (4, 61), (5, -12)),
-        update(0, 0, KEY_2, (0, 6), (5, -90)),
-        insert(1, 0, (1, 3), (3, 12)),
-        insert(1, 0, (1, 5), (4, 8)),
+        insert(1, 0, sealed(1, 4), sealed(4, -250)),
+        insert(2, 1, sealed(4, 60), sealed(6, 900)),
+        insert(1, 0, sealed(0, 2), sealed(2, 35)),
+        insert(2, 1, sealed(4, 61), sealed(5, -12)),
+        update(0, 0, KEY_2, sealed(0, 6), sealed(5, -90)),
+        insert(1, 0, sealed(1, 3), sealed(3, 12)),
+        insert(1, 0, sealed(1, 5), sealed(4, 8)),
         select(0, 0, ALL, 3),
         select(1, 0, LOW_SECONDS, 3),
-        unseal(1, (6, 900)),
+        unseal(1, sealed(6, 900)),
         open(1, 0, 7),
         delete(1, 0, FIRST_4),
-        insert(1, 1, (0, 7), (2, 1)),
-        unseal(0, (4, -250)),
+        insert(1, 1, sealed(0, 7), sealed(2, 1)),
+        unseal(0, sealed(4, -250)),
     ]
 }
 
@@ -175,19 +78,19 @@ pub fn right_requests() -> [Request<Rung>; 16]
         open(0, 0, 3),
         open(1, 0, 7),
         open(2, 5, 7),
-        insert(2, 1, (4, 17), (6, 5)),
-        insert(1, 0, (1, 4), (4, -310)),
-        insert(1, 0, (0, 2), (2, 35)),
-        update(0, 0, KEY_2, (0, 6), (5, 12)),
-        insert(1, 0, (1, 3), (3, 12)),
+        insert(2, 1, sealed(4, 17), sealed(6, 5)),
+        insert(1, 0, sealed(1, 4), sealed(4, -310)),
+        insert(1, 0, sealed(0, 2), sealed(2, 35)),
+        update(0, 0, KEY_2, sealed(0, 6), sealed(5, 12)),
+        insert(1, 0, sealed(1, 3), sealed(3, 12)),
         delete(2, 0, KEY_1),
-        insert(1, 0, (1, 5), (4, 9)),
+        insert(1, 0, sealed(1, 5), sealed(4, 9)),
         select(0, 0, ALL, 3),
         select(1, 0, LOW_SECONDS, 3),
         open(1, 0, 7),
         delete(1, 0, FIRST_4),
-        insert(1, 1, (0, 7), (2, 1)),
-        unseal(0, (4, -310)),
+        insert(1, 1, sealed(0, 7), sealed(2, 1)),
+        unseal(0, sealed(4, -310)),
     ]
 }
 

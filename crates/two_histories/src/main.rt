@@ -4,17 +4,17 @@
 mod histories;
 mod show;
 
-use anyhow::anyhow;
+use anyhow::ensure;
 use chained::{Cell, Chained};
 use histories::{left_requests, observer, play_both, records, right_requests};
 use labels::{Label, Rung};
 use monitor::{Answer, Event, Request};
 use packed::Packed;
 use sessions::{Sealed, Session};
-use show::{show_extent, show_history, show_sessions, show_table};
+use show::{show_extent, show_history, show_monitor};
 use stores::{Plan, Row, Store};
 use tables::Place;
-use wording::show_label;
+use wording::show;
 
 const INTRODUCTION: &str = "\
 Two histories of requests are played, each on a new monitor: left over a packed store, right over a chained one.
@@ -33,20 +33,9 @@ observer sees nothing of it.
 What really happens, with the label of the session after each request, and with what the observer sees of the
 request: its answer, only that it is made, or nothing.";
 
-const NO_ROW: Row = Row {
-    key: 0,
-    first: 0,
-    second: 0,
-};
-
-const NO_CELL: Cell = Cell {
-    row: NO_ROW,
-    next: 0,
-};
-
 const NO_EVENT: Event<Rung> = Event {
     before: None,
-    answer: Answer::Done,
+    answer: Ok(Answer::Done),
     after: None,
 };
 
@@ -61,7 +50,7 @@ fn no_place() -> Place<Rung> {
 
 // All of a history, as the host sees it: nothing is blanked at the highest label.
 fn print_history(
-    rt: &HostRuntime,
+    rt: &(impl Print + AllocGlobal),
     side: &str,
     requests: &[Request<Rung>],
     events: &[Event<Rung>],
@@ -70,8 +59,8 @@ fn print_history(
     let highest = Rung::own_label(7);
     let lines = show_history(rt.alloc(), highest, requests, events, places)?;
     println!(rt; "\nlabel  seen     {side} history: request -> answer")?;
-    for ((request, event), line) in requests.iter().zip(events.iter()).zip(lines.iter()) {
-        let label = show_label(rt.alloc(), event.after)?;
+    for ((request, event), line) in requests.iter().zip(events).zip(&lines) {
+        let label = show(event.after).to_string(rt.alloc())?;
         let extent = show_extent(observer(), *request, *event);
         println!(rt; "{label:>5}  {extent:<7}  {line}")?;
     }
@@ -80,23 +69,15 @@ fn print_history(
 
 // An error if what is seen of both differs.
 fn expect_same(left: &[String], right: &[String]) -> anyhow::Result<()> {
-    let mut same = left.len() == right.len();
-    for (left, right) in left.iter().zip(right.iter()) {
-        same = same && left.as_str() == right.as_str();
-    }
-    if same {
-        Ok(())
-    } else {
-        Err(anyhow!("the observer sees a difference"))
-    }
+    ensure!(left == right, "the observer sees a difference");
+    Ok(())
 }
 
 // What the observer sees of the requests, those to the right below those to the left.
-fn print_requests(rt: &HostRuntime, left: &[String], right: &[String]) -> anyhow::Result<()> {
+fn print_requests(rt: &impl Print, left: &[String], right: &[String]) -> anyhow::Result<()> {
     println!(rt; "\nWhat the observer at 3 sees of both, request by request:")?;
-    for ((left, right), number) in left.iter().zip(right.iter()).zip(1..=left.len()) {
-        println!(rt; "{number:>2}  left   {left}")?;
-        println!(rt; "    right  {right}")?;
+    for (i, (left, right)) in left.iter().zip(right).enumerate() {
+        println!(rt; "{:>2}  left   {left}\n    right  {right}", i + 1)?;
     }
     expect_same(left, right)?;
     println!(rt;
@@ -105,16 +86,9 @@ fn print_requests(rt: &HostRuntime, left: &[String], right: &[String]) -> anyhow
     Ok(())
 }
 
-fn print_beside(rt: &HostRuntime, left: &[String], right: &[String]) -> anyhow::Result<()> {
-    for (left, right) in left.iter().zip(right.iter()) {
-        println!(rt; "{left:<40}{right}")?;
-    }
-    expect_same(left, right)
-}
-
 // What the observer sees of the monitors in the end, side by side.
 fn print_end<S: Store, T: Store>(
-    rt: &HostRuntime,
+    rt: &(impl Print + AllocGlobal),
     left: &[Session<Rung>],
     left_store: &S,
     right: &[Session<Rung>],
@@ -122,21 +96,19 @@ fn print_end<S: Store, T: Store>(
 ) -> anyhow::Result<()> {
     let heap = rt.alloc();
     let records = records();
-    let left_lines = show_sessions(heap, observer(), left)?;
-    let right_lines = show_sessions(heap, observer(), right)?;
-    println!(rt; "{:<40}{}", "left", "right")?;
-    print_beside(rt, &left_lines, &right_lines)?;
-    for table in 0..records.len() {
-        let left_lines = show_table(heap, observer(), &records, left_store, table)?;
-        let right_lines = show_table(heap, observer(), &records, right_store, table)?;
-        print_beside(rt, &left_lines, &right_lines)?;
+    let left_lines = show_monitor(heap, observer(), left, &records, left_store)?;
+    let right_lines = show_monitor(heap, observer(), right, &records, right_store)?;
+    println!(rt; "{:<40}right", "left")?;
+    for (left, right) in left_lines.iter().zip(&right_lines) {
+        println!(rt; "{left:<40}{right}")?;
     }
+    expect_same(&left_lines, &right_lines)?;
     println!(rt; "\nBoth are the same.")?;
     Ok(())
 }
 
 fn print_played(
-    rt: &HostRuntime,
+    rt: &(impl Print + AllocGlobal),
     left_events: &[Event<Rung>],
     left_places: &[Place<Rung>],
     right_events: &[Event<Rung>],
@@ -153,9 +125,13 @@ fn print_played(
     print_requests(rt, &left_lines, &right_lines)
 }
 
-fn run(rt: &HostRuntime) -> anyhow::Result<()> {
-    let mut left_rows = [NO_ROW; 5];
-    let mut right_cells = [NO_CELL; 5];
+fn run(rt: &(impl Print + AllocGlobal)) -> anyhow::Result<()> {
+    let no_cell = Cell {
+        row: Row::default(),
+        next: 0,
+    };
+    let mut left_rows = [Row::default(); 5];
+    let mut right_cells = [no_cell; 5];
     let plan = Plan::of(&[3, 2])?;
     let mut left_store = Packed::new(plan, &mut left_rows);
     let mut right_store = Chained::new(plan, &mut right_cells);

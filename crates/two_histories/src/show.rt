@@ -9,47 +9,38 @@ use sessions::{Sealed, Session};
 use std::alloc::{AllocError, Global};
 use stores::{Row, Store};
 use tables::{Place, TableRecord};
-use wording::{show_answer_to, show_place_to, show_request_to};
+use wording::show_to;
 
-// An answer, with the rows that it says are filled, from a place on.
-fn show_filled(
-    heap: Global,
-    observer: Rung,
-    answer: Answer<Rung>,
-    places: &[Place<Rung>],
-    start: usize,
-) -> Result<String, AllocError> {
-    let mut shown = show_answer_to(heap, observer, answer)?;
-    if let Answer::Filled(count) = answer {
-        for place in places.iter().skip(start).take(count) {
-            let row = show_place_to(heap, observer, view_place(observer, *place))?;
-            shown.push_str("; ")?;
-            shown.push_str(&row)?;
-        }
-    }
-    Ok(shown)
-}
-
-// A request and what is seen of its answer; none where it is not seen at all.
+// A request and what is seen of its answer, with the rows that fill the first places; none where it is not seen at all.
 fn show_served(
     heap: Global,
     observer: Rung,
     request: Request<Rung>,
     event: Event<Rung>,
     places: &[Place<Rung>],
-    start: usize,
 ) -> Result<Option<String>, AllocError> {
-    let asked = show_request_to(heap, observer, view_request(observer, request))?;
-    match view_event(observer, request.ask, event) {
-        EventView::Unseen => Ok(None),
-        EventView::Above => Ok(Some(format!(in heap;
-            "{asked} -> not seen: the session is then above {observer}"
-        )?)),
-        EventView::Seen(answer) => {
-            let answer = show_filled(heap, observer, answer, places, start)?;
-            Ok(Some(format!(in heap; "{asked} -> {answer}")?))
+    let asked = show_to(observer, view_request(observer, request));
+    let answer = match view_event(observer, request.ask, event) {
+        EventView::Unseen => return Ok(None),
+        EventView::Above => {
+            let line = format!(in heap;
+                "{asked} -> not seen: the session is then above {observer}"
+            )?;
+            return Ok(Some(line));
+        }
+        EventView::Seen(answer) => answer,
+    };
+    let mut line = format!(in heap; "{asked} -> {}", show_to(observer, answer))?;
+    if let Ok(Answer::Filled(count)) = answer {
+        for place in places.iter().take(count) {
+            write!(
+                line,
+                "; {}",
+                show_to(observer, view_place(observer, *place))
+            )?;
         }
     }
+    Ok(Some(line))
 }
 
 // The requests of a history that are seen, a line for each. The places of each selection follow those of the one before it.
@@ -58,15 +49,14 @@ pub fn show_history(
     observer: Rung,
     requests: &[Request<Rung>],
     events: &[Event<Rung>],
-    places: &[Place<Rung>],
+    mut places: &[Place<Rung>],
 ) -> Result<Vec<String>, AllocError> {
     let mut lines = Vec::new(heap);
-    let mut start: usize = 0;
-    for (request, event) in requests.iter().zip(events.iter()) {
-        if let Some(line) = show_served(heap, observer, *request, *event, places, start)? {
+    for (request, event) in requests.iter().zip(events) {
+        if let Some(line) = show_served(heap, observer, *request, *event, places)? {
             lines.push(line)?;
         }
-        start = start.saturating_add(request.ask.room());
+        places = places.get(request.ask.room()..).unwrap_or_default();
     }
     Ok(lines)
 }
@@ -89,32 +79,19 @@ fn show_session(
     match view_session(observer, session) {
         SessionView::Closed => format!(in heap; "session {number}: closed"),
         SessionView::Above => format!(in heap; "session {number}: above {observer}"),
-        SessionView::Open(standing) => {
-            let label = standing.label();
-            let clearance = standing.clearance();
-            format!(in heap; "session {number}: label {label}, clearance {clearance}")
-        }
+        SessionView::Open(standing) => format!(in heap;
+            "session {number}: label {}, clearance {}",
+            standing.label(),
+            standing.clearance()
+        ),
     }
-}
-
-// The sessions of a monitor, a line for each.
-pub fn show_sessions(
-    heap: Global,
-    observer: Rung,
-    sessions: &[Session<Rung>],
-) -> Result<Vec<String>, AllocError> {
-    let mut lines = Vec::new(heap);
-    for (number, session) in sessions.iter().enumerate() {
-        lines.push(show_session(heap, observer, number, session)?)?;
-    }
-    Ok(lines)
 }
 
 // A row with the labels that its table's record gives its fields.
 fn show_row(
     heap: Global,
     observer: Rung,
-    record: TableRecord<Rung>,
+    record: &TableRecord<Rung>,
     row: Row,
 ) -> Result<String, AllocError> {
     let place = Place {
@@ -122,29 +99,32 @@ fn show_row(
         first: Sealed::new(record.first, row.first),
         second: Sealed::new(record.second.label_of(row.first), row.second),
     };
-    let values = show_place_to(heap, observer, place)?;
-    format!(in heap; "  {values}")
+    format!(in heap; "  {}", show_to(observer, place))
 }
 
-// A table, a line for itself and one for each of its rows.
-pub fn show_table<S: Store>(
+// What is seen of a monitor, a line for each of its sessions, its tables and their rows.
+pub fn show_monitor<S: Store>(
     heap: Global,
     observer: Rung,
+    sessions: &[Session<Rung>],
     records: &[TableRecord<Rung>],
     store: &S,
-    table: usize,
 ) -> Result<Vec<String>, AllocError> {
     let mut lines = Vec::new(heap);
-    match view_table(observer, records, store, table) {
-        TableView::Missing => lines.push(format!(in heap; "table {table}: missing")?)?,
-        TableView::Hidden => lines.push(format!(in heap; "table {table}: blanked whole")?)?,
-        TableView::Rows(count) => {
-            lines.push(format!(in heap; "table {table}: {count} rows")?)?;
-            for place in 0..count {
-                if table < records.len()
-                    && let Some(row) = view_row(observer, records, store, table, place)
-                {
-                    lines.push(show_row(heap, observer, records[table], row)?)?;
+    for (number, session) in sessions.iter().enumerate() {
+        lines.push(show_session(heap, observer, number, session)?)?;
+    }
+    for (table, record) in records.iter().enumerate() {
+        match view_table(observer, records, store, table) {
+            TableView::Missing => lines.push(format!(in heap; "table {table}: missing")?)?,
+            TableView::Hidden => lines.push(format!(in heap; "table {table}: blanked whole")?)?,
+            TableView::Rows(count) => {
+                lines.push(format!(in heap; "table {table}: {count} rows")?)?;
+                let rows = (0..count).filter_map(|place| view_row(
+                    observer, records, store, table, place,
+                ));
+                for row in rows {
+                    lines.push(show_row(heap, observer, record, row)?)?;
                 }
             }
         }

@@ -3,189 +3,134 @@
 
 use labels::Label;
 use monitor::{Answer, Ask, Request};
-use sessions::{Sealed, Standing};
-use std::alloc::{AllocError, Global};
+use sessions::{Refusal, Sealed, Standing};
 use std::fmt;
 use tables::{Place, Predicate, Range};
 
-fn show_range(heap: Global, field: &str, range: Option<Range>) -> Result<String, AllocError> {
-    match range {
-        None => format!(in heap; ""),
-        Some(Range { low, high }) => format!(in heap; ", {field} {low} to {high}"),
+// What is printed of an item, with a star for each value that the observer, if there is one, does not see.
+#[derive(Clone, Copy)]
+pub struct Shown<L, T> {
+    observer: Option<L>,
+    item: T,
+}
+
+pub fn show<L, T>(item: T) -> Shown<L, T> {
+    Shown {
+        observer: None,
+        item,
     }
 }
 
-fn show_predicate(heap: Global, predicate: Predicate) -> Result<String, AllocError> {
-    let key = show_range(heap, "key", predicate.key)?;
-    let first = show_range(heap, "first", predicate.first)?;
-    let second = show_range(heap, "second", predicate.second)?;
-    format!(in heap; "{key}{first}{second}")
-}
-
-// A value under a label: the label, a colon and the value; or a star in place of a value that the observer, if there is one,
-// does not see.
-fn show_sealed_by<L: Label + fmt::Display>(
-    heap: Global,
-    observer: Option<L>,
-    sealed: Sealed<L>,
-) -> Result<String, AllocError> {
-    let label = sealed.label();
-    if let Some(observer) = observer
-        && !label.flows_to(observer)
-    {
-        return format!(in heap; "{label}:*");
+pub fn show_to<L, T>(observer: L, item: T) -> Shown<L, T> {
+    Shown {
+        observer: Some(observer),
+        item,
     }
-    let value = sealed.host_value();
-    format!(in heap; "{label}:{value}")
 }
 
-pub fn show_sealed<L: Label + fmt::Display>(
-    heap: Global,
-    sealed: Sealed<L>,
-) -> Result<String, AllocError> {
-    show_sealed_by(heap, None, sealed)
-}
-
-fn show_two<L: Label + fmt::Display>(
-    heap: Global,
-    observer: Option<L>,
-    first: Sealed<L>,
-    second: Sealed<L>,
-) -> Result<String, AllocError> {
-    let first = show_sealed_by(heap, observer, first)?;
-    let second = show_sealed_by(heap, observer, second)?;
-    format!(in heap; "{first}, {second}")
-}
-
-fn show_request_by<L: Label + fmt::Display>(
-    heap: Global,
-    observer: Option<L>,
-    request: Request<L>,
-) -> Result<String, AllocError> {
-    let Request { session, ask } = request;
-    match ask {
-        Ask::Open(label, clearance) => format!(in heap;
-            "open session {session}, {label} to {clearance}"
-        ),
-        Ask::Raise(to) => format!(in heap; "session {session} raises its label to {to}"),
-        Ask::LowerClearance(to) => format!(in heap;
-            "session {session} lowers its clearance to {to}"
-        ),
-        Ask::Seal(value, under) => format!(in heap;
-            "session {session} seals {value} under {under}"
-        ),
-        Ask::Unseal(sealed) => {
-            let sealed = show_sealed_by(heap, observer, sealed)?;
-            format!(in heap; "session {session} unseals {sealed}")
-        }
-        Ask::Select(table, predicate, room) => {
-            let which = show_predicate(heap, predicate)?;
-            format!(in heap; "session {session} selects {table}{which}, {room} places")
-        }
-        Ask::Insert(table, first, second) => {
-            let values = show_two(heap, observer, first, second)?;
-            format!(in heap; "session {session} inserts in {table}: {values}")
-        }
-        Ask::Delete(table, predicate) => {
-            let which = show_predicate(heap, predicate)?;
-            format!(in heap; "session {session} deletes in {table}{which}")
-        }
-        Ask::Update(table, predicate, first, second) => {
-            let which = show_predicate(heap, predicate)?;
-            let values = show_two(heap, observer, first, second)?;
-            format!(in heap; "session {session} updates {table}{which}: {values}")
+impl<L: Label, T> Shown<L, T> {
+    // A part of the item, to the same observer.
+    fn part<U>(&self, item: U) -> Shown<L, U> {
+        Shown {
+            observer: self.observer,
+            item,
         }
     }
 }
 
-pub fn show_request<L: Label + fmt::Display>(
-    heap: Global,
-    request: Request<L>,
-) -> Result<String, AllocError> {
-    show_request_by(heap, None, request)
+// The ranges of a predicate that are present, with a comma before each.
+#[derive(Clone, Copy)]
+struct Ranges(Predicate);
+
+impl fmt::Display for Ranges {
+    fn fmt<W: fmt::Write>(&self, f: &mut fmt::Formatter<W>) -> fmt::Result {
+        let Predicate { key, first, second } = self.0;
+        for (field, range) in [("key", key), ("first", first), ("second", second)] {
+            if let Some(Range { low, high }) = range {
+                write!(f, ", {field} {low} to {high}")?;
+            }
+        }
+        Ok(())
+    }
 }
 
-// A request with a star for each value that the observer does not see.
-pub fn show_request_to<L: Label + fmt::Display>(
-    heap: Global,
-    observer: L,
-    request: Request<L>,
-) -> Result<String, AllocError> {
-    show_request_by(heap, Some(observer), request)
-}
-
-fn show_answer_by<L: Label + fmt::Display>(
-    heap: Global,
-    observer: Option<L>,
-    answer: Answer<L>,
-) -> Result<String, AllocError> {
-    match answer {
-        Answer::Done => format!(in heap; "done"),
-        Answer::Sealed(sealed) => show_sealed_by(heap, observer, sealed),
-        Answer::Value(value) => format!(in heap; "{value}"),
-        Answer::Filled(count) => format!(in heap; "rows: {count}"),
-        Answer::Key(key) => format!(in heap; "key {key}"),
-        Answer::Changed(count) => format!(in heap; "rows changed: {count}"),
-        Answer::Refused(refusal) => {
-            let number = refusal.number();
-            format!(in heap; "refused ({number}): {refusal}")
+// The label, a colon and the value or a star.
+impl<L: Label + fmt::Display> fmt::Display for Shown<L, Sealed<L>> {
+    fn fmt<W: fmt::Write>(&self, f: &mut fmt::Formatter<W>) -> fmt::Result {
+        let label = self.item.label();
+        match self.observer {
+            Some(observer) if !label.flows_to(observer) => write!(f, "{label}:*"),
+            _ => write!(f, "{label}:{}", self.item.host_value()),
         }
     }
 }
 
-pub fn show_answer<L: Label + fmt::Display>(
-    heap: Global,
-    answer: Answer<L>,
-) -> Result<String, AllocError> {
-    show_answer_by(heap, None, answer)
+impl<L: Label + fmt::Display> fmt::Display for Shown<L, Request<L>> {
+    fn fmt<W: fmt::Write>(&self, f: &mut fmt::Formatter<W>) -> fmt::Result {
+        let Request { session, ask } = self.item;
+        match ask {
+            Ask::Open(label, clearance) => {
+                write!(f, "open session {session}, {label} to {clearance}")
+            }
+            Ask::Raise(to) => write!(f, "session {session} raises its label to {to}"),
+            Ask::LowerClearance(to) => write!(f, "session {session} lowers its clearance to {to}"),
+            Ask::Seal(value, under) => write!(f, "session {session} seals {value} under {under}"),
+            Ask::Unseal(sealed) => write!(f, "session {session} unseals {}", self.part(sealed)),
+            Ask::Select(table, predicate, room) => write!(
+                f,
+                "session {session} selects {table}{}, {room} places",
+                Ranges(predicate)
+            ),
+            Ask::Insert(table, first, second) => write!(
+                f,
+                "session {session} inserts in {table}: {}, {}",
+                self.part(first),
+                self.part(second)
+            ),
+            Ask::Delete(table, predicate) => write!(
+                f,
+                "session {session} deletes in {table}{}",
+                Ranges(predicate)
+            ),
+            Ask::Update(table, predicate, first, second) => write!(
+                f,
+                "session {session} updates {table}{}: {}, {}",
+                Ranges(predicate),
+                self.part(first),
+                self.part(second)
+            ),
+        }
+    }
 }
 
-// An answer with a star for a value that the observer does not see.
-pub fn show_answer_to<L: Label + fmt::Display>(
-    heap: Global,
-    observer: L,
-    answer: Answer<L>,
-) -> Result<String, AllocError> {
-    show_answer_by(heap, Some(observer), answer)
-}
-
-fn show_place_by<L: Label + fmt::Display>(
-    heap: Global,
-    observer: Option<L>,
-    place: Place<L>,
-) -> Result<String, AllocError> {
-    let key = place.key;
-    let values = show_two(heap, observer, place.first, place.second)?;
-    format!(in heap; "key {key}, {values}")
+impl<L: Label + fmt::Display> fmt::Display for Shown<L, Result<Answer<L>, Refusal<L>>> {
+    fn fmt<W: fmt::Write>(&self, f: &mut fmt::Formatter<W>) -> fmt::Result {
+        match self.item {
+            Ok(Answer::Done) => f.write_str("done"),
+            Ok(Answer::Sealed(sealed)) => write!(f, "{}", self.part(sealed)),
+            Ok(Answer::Value(value)) => write!(f, "{value}"),
+            Ok(Answer::Filled(count)) => write!(f, "rows: {count}"),
+            Ok(Answer::Key(key)) => write!(f, "key {key}"),
+            Ok(Answer::Changed(count)) => write!(f, "rows changed: {count}"),
+            Err(refusal) => write!(f, "refused ({}): {refusal}", refusal.number()),
+        }
+    }
 }
 
 // A row as it was answered.
-pub fn show_place<L: Label + fmt::Display>(
-    heap: Global,
-    place: Place<L>,
-) -> Result<String, AllocError> {
-    show_place_by(heap, None, place)
+impl<L: Label + fmt::Display> fmt::Display for Shown<L, Place<L>> {
+    fn fmt<W: fmt::Write>(&self, f: &mut fmt::Formatter<W>) -> fmt::Result {
+        let Place { key, first, second } = self.item;
+        write!(f, "key {key}, {}, {}", self.part(first), self.part(second))
+    }
 }
 
-// The same with a star for each value that the observer does not see.
-pub fn show_place_to<L: Label + fmt::Display>(
-    heap: Global,
-    observer: L,
-    place: Place<L>,
-) -> Result<String, AllocError> {
-    show_place_by(heap, Some(observer), place)
-}
-
-// A label, or a minus sign where no session is open.
-pub fn show_label<L: Label + fmt::Display>(
-    heap: Global,
-    standing: Option<Standing<L>>,
-) -> Result<String, AllocError> {
-    match standing {
-        None => format!(in heap; "-"),
-        Some(standing) => {
-            let label = standing.label();
-            format!(in heap; "{label}")
+// The label of a session, or a minus sign where none is open.
+impl<L: Label + fmt::Display> fmt::Display for Shown<L, Option<Standing<L>>> {
+    fn fmt<W: fmt::Write>(&self, f: &mut fmt::Formatter<W>) -> fmt::Result {
+        match self.item {
+            None => f.write_str("-"),
+            Some(standing) => write!(f, "{}", standing.label()),
         }
     }
 }

@@ -11,7 +11,8 @@ use Rattle.monitor.specs.declared.requests.Event.{Event}
 use Rattle.monitor.specs.declared.requests.ShortBuffer.{ShortBuffer}
 use Rattle.monitor.specs.Steps.{State, run, replies}
 use Rattle.monitor.specs.Lists.{Listed, short_of, laid, listed, serving_each, serving_all}
-use Rattle.worked_example.specs.Example.{table_records, at_first, requests_with, worked, row_with, seen_at_3, seen_always}
+use Rattle.rung_requests.specs.Example.{table_records, requests_with}
+use Rattle.worked_example.specs.Example.{at_first, worked, row_with, seen_at_3, seen_always}
 
 pub sees : (v : ℤ) → seen_at_3 v ≡ seen_always
 sees v = refl

@@ -2,24 +2,10 @@
 use labels::{Consent, Label, UnlawfulLabel};
 use monitor::{Ask, Event, Request, serve_all};
 use packed::Packed;
+use rung_requests::predicates::{ALL, LOW_SECONDS};
 use sessions::{Sealed, Session};
 use stores::{Plan, Row};
-use tables::{Place, Predicate, Range, SecondRule, TableRecord};
-
-const ALL: Predicate = Predicate {
-    key: None,
-    first: None,
-    second: None,
-};
-
-const LOW_SECONDS: Predicate = Predicate {
-    key: None,
-    first: None,
-    second: Some(Range {
-        low: -300,
-        high: -200,
-    }),
-};
+use tables::{Place, SecondRule, TableRecord};
 
 // The consent of one of the parties 0 and 2 suffices.
 const EITHER: u64 = 0xFAFA_FAFA_FAFA_FAFA;
@@ -71,11 +57,7 @@ pub fn play(
     events: &mut [Event<Consent>; 10],
     places: &mut [Place<Consent>; 4],
 ) -> anyhow::Result<()> {
-    let mut rows = [Row {
-        key: 0,
-        first: 0,
-        second: 0,
-    }; 3];
+    let mut rows = [Row::default(); 3];
     let mut store = Packed::new(Plan::of(&[3])?, &mut rows);
     let mut sessions = [Session::closed(), Session::closed()];
     serve_all(

@@ -9,10 +9,12 @@ mod seen;
 #[cfg(test)]
 mod tests;
 
-use example::{play, requests};
+use example::play;
 use labels::{Consent, Label};
 use monitor::{Answer, Event};
 use printing::{Layout, print_run};
+use rung_requests::example::requests;
+use rung_requests::rung;
 use seen::show_seen;
 use sessions::Sealed;
 use tables::Place;
@@ -40,7 +42,7 @@ fn nothing<L: Label>() -> (Event<L>, Place<L>) {
     let blank = Sealed::new(L::lowest(), 0);
     let event = Event {
         before: None,
-        answer: Answer::Done,
+        answer: Ok(Answer::Done),
         after: None,
     };
     let place = Place {
@@ -51,11 +53,11 @@ fn nothing<L: Label>() -> (Event<L>, Place<L>) {
     (event, place)
 }
 
-fn run_rungs(rt: &HostRuntime) -> anyhow::Result<()> {
+fn run_rungs(rt: &(impl Print + AllocGlobal)) -> anyhow::Result<()> {
     let (event, place) = nothing();
     let mut events = [event; 15];
     let mut places = [place; 8];
-    let observer = <labels::Rung as Label>::own_label(3);
+    let observer = rung(3);
     println!(rt; "{ABOUT}")?;
     play(-250, &mut events, &mut places)?;
     print_run(rt, Layout::Short, &requests(-250), &events, &places)?;
@@ -64,35 +66,32 @@ fn run_rungs(rt: &HostRuntime) -> anyhow::Result<()> {
     let other = show_seen(rt.alloc(), observer, &requests(77), &events, &places)?;
     println!(rt; "{COMPARED}")?;
     println!(rt; "with -250:\n{one}\nwith 77:\n{other}")?;
-    if one.as_str() == other.as_str() {
-        println!(rt; "Both are the same.")?;
+    let verdict = if one == other {
+        "Both are the same."
     } else {
-        println!(rt; "They differ.")?;
-    }
+        "They differ."
+    };
+    println!(rt; "{verdict}")?;
     Ok(())
 }
 
-fn run_consents(rt: &HostRuntime) -> anyhow::Result<()> {
+fn run_consents(rt: &impl Print) -> anyhow::Result<()> {
     let (event, place) = nothing();
     let mut events = [event; 10];
     let mut places = [place; 4];
     println!(rt; "{CONSENTS}")?;
     consents::play(&mut events, &mut places)?;
     print_run(rt, Layout::Long, &consents::requests(), &events, &places)?;
-    if let Err(refusal) = Consent::new(0x2, 0) {
-        let number = refusal.number();
+    if let Err(unlawful) = Consent::new(0x2, 0) {
         println!(rt;
-            "\nThe word 0x2 makes no label, refused ({number}): {refusal}. It holds for party 0 alone and not for 0 and 1."
+            "\nThe word 0x2 makes no label, refused ({}): {unlawful}. It holds for party 0 alone and not for 0 and 1.",
+            unlawful.number()
         )?;
     }
     Ok(())
 }
 
-fn run(rt: &HostRuntime) -> anyhow::Result<()> {
-    run_rungs(rt)?;
-    run_consents(rt)
-}
-
 fn main(rt: HostRuntime) -> anyhow::Result<()> {
-    run(&rt)
+    run_rungs(&rt)?;
+    run_consents(&rt)
 }

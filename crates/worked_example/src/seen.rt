@@ -4,47 +4,31 @@ use labels::Rung;
 use monitor::{Answer, Event, Request};
 use std::alloc::{AllocError, Global};
 use tables::Place;
-use wording::{show_answer_to, show_place_to};
+use wording::show_to;
 
-fn show_view(heap: Global, observer: Rung, view: EventView<Rung>) -> Result<String, AllocError> {
-    match view {
-        EventView::Unseen => format!(in heap; "nothing"),
-        EventView::Above => format!(in heap; "that it was made"),
-        EventView::Seen(answer) => show_answer_to(heap, observer, answer),
-    }
-}
-
-// The rows of a selection that is seen, from the start of its places on.
-fn show_rows(
-    heap: Global,
-    observer: Rung,
-    view: EventView<Rung>,
-    places: &[Place<Rung>],
-    start: usize,
-) -> Result<String, AllocError> {
-    let mut text = String::new(heap);
-    if let EventView::Seen(Answer::Filled(count)) = view {
-        for place in places.iter().skip(start).take(count) {
-            let row = show_place_to(heap, observer, view_place(observer, *place))?;
-            let line = format!(in heap; "    {row}\n")?;
-            text.push_str(&line)?;
-        }
-    }
-    Ok(text)
-}
-
-// A line for the request of a number, with rows on the lines below.
-fn show_event(
-    heap: Global,
+// A line for the request of a number, and one for each row of a selection that is seen; they fill the first places.
+fn push_event(
+    text: &mut String,
     observer: Rung,
     number: usize,
     view: EventView<Rung>,
     places: &[Place<Rung>],
-    start: usize,
-) -> Result<String, AllocError> {
-    let returned = show_view(heap, observer, view)?;
-    let rows = show_rows(heap, observer, view, places, start)?;
-    format!(in heap; "{number:>2}  {returned}\n{rows}")
+) -> Result<(), AllocError> {
+    match view {
+        EventView::Unseen => writeln!(text, "{number:>2}  nothing")?,
+        EventView::Above => writeln!(text, "{number:>2}  that it was made")?,
+        EventView::Seen(answer) => writeln!(text, "{number:>2}  {}", show_to(observer, answer))?,
+    }
+    if let EventView::Seen(Ok(Answer::Filled(count))) = view {
+        for place in places.iter().take(count) {
+            writeln!(
+                text,
+                "    {}",
+                show_to(observer, view_place(observer, *place))
+            )?;
+        }
+    }
+    Ok(())
 }
 
 // What is seen returned by requests 4 to 8.
@@ -53,18 +37,16 @@ pub fn show_seen(
     observer: Rung,
     requests: &[Request<Rung>],
     events: &[Event<Rung>],
-    places: &[Place<Rung>],
+    mut places: &[Place<Rung>],
 ) -> Result<String, AllocError> {
     let mut text = String::new(heap);
-    let mut start: usize = 0;
-    for (i, (request, event)) in requests.iter().zip(events.iter()).enumerate() {
+    for (i, (request, event)) in requests.iter().zip(events).enumerate() {
         let number = i + 1;
-        if 4 <= number && number <= 8 {
+        if (4..=8).contains(&number) {
             let view = view_event(observer, request.ask, *event);
-            let shown = show_event(heap, observer, number, view, places, start)?;
-            text.push_str(&shown)?;
+            push_event(&mut text, observer, number, view, places)?;
         }
-        start = start.saturating_add(request.ask.room());
+        places = places.get(request.ask.room()..).unwrap_or_default();
     }
     Ok(text)
 }

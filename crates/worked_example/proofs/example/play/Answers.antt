@@ -3,7 +3,8 @@ use Rattle.std.proofs.lemmas.Int.{to_z-of_z}
 use Rattle.stores.specs.Layout.{new_tables}
 use Rattle.stores.specs.Plans.{limits_of, planned}
 use Rattle.monitor.specs.Steps.{state}
-use Rattle.worked_example.specs.Example.{requests_with, worked, row_with}
+use Rattle.rung_requests.specs.Example.{requests_with}
+use Rattle.worked_example.specs.Example.{worked, row_with}
 use Rattle.worked_example.proofs.Working.{sees, plays}
 use Rattle.worked_example.proofs.example.play.Goals as goal
 use Rattle.worked_example.proofs.example.play.Goals.{After-serve_all}
