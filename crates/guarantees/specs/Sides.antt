@@ -9,9 +9,7 @@ abbrev pub monitor_of : {L S : Type 0} → (S → List Table) → Side L S → S
 monitor_of meaning s = state s.sessions.now (meaning s.store.now)
 
 -- A side holds the very parts that were lent to it.
-pub record SameLoans {L S : Type 0} (before after : Side L S) : Type 0 where
-  pub sessions : after.sessions.ghost_name ≡ before.sessions.ghost_name
-  pub store : after.store.ghost_name ≡ before.store.ghost_name
-  pub events : after.events.ghost_name ≡ before.events.ghost_name
-  pub places : after.places.ghost_name ≡ before.places.ghost_name
-  pub requests : after.requests ≡ before.requests
+abbrev pub SameLoans : {L S : Type 0} → Side L S → Side L S → Type 0
+SameLoans before after =
+    (after.sessions.ghost_name ≡ before.sessions.ghost_name) × (after.store.ghost_name ≡ before.store.ghost_name)
+    × (after.events.ghost_name ≡ before.events.ghost_name) × (after.places.ghost_name ≡ before.places.ghost_name) × (after.requests ≡ before.requests)

@@ -4,7 +4,7 @@ ghost use Rattle.monitor.specs.Steps.{state};
 ghost use Rattle.monitor.specs.Lists.{listed};
 ghost use Rattle.two_histories.specs.Histories.{observer_label, table_records, start, left_history, right_history, playing, HistoriesLookSame};
 
-use guarantees::serve_both;
+use guarantees::{Side, serve_both};
 use labels::Rung;
 use monitor::{Event, Request, ShortBuffer};
 use rung_requests::predicates::{ALL, KEY_1, LOW_SECONDS};
@@ -112,17 +112,21 @@ pub fn play_both<S: Store, T: Store>(
     ensures served { result ≡ (Ok tt, Ok tt) }
     ensures look_same { HistoriesLookSame (state left.new (S.Store.tables left_store.new)) (state right.new (T.Store.tables right_store.new)) }
 {
-    serve_both(
-        &records(),
-        left,
-        left_store,
-        &left_requests(),
-        left_events,
-        left_places,
-        right,
-        right_store,
-        &right_requests(),
-        right_events,
-        right_places,
-    )
+    let left_history = left_requests();
+    let right_history = right_requests();
+    let mut left = Side {
+        sessions: left,
+        store: left_store,
+        requests: &left_history,
+        events: left_events,
+        places: left_places,
+    };
+    let mut right = Side {
+        sessions: right,
+        store: right_store,
+        requests: &right_history,
+        events: right_events,
+        places: right_places,
+    };
+    serve_both(&records(), &mut left, &mut right)
 }
