@@ -1,4 +1,5 @@
 // Serving requests: one, or a whole list. Buffers are tested first, so that a list is served as a whole or not at all.
+// Sessions, records and store are lent one by one, as to the requests on tables: a selection is lent its store by `&`.
 ghost use Rattle.std.specs.Prelude.{◌≡◌, ◌+◌, ◌<◌, ◌≤◌, length, None, Ok, slice_set};
 ghost use Rattle.std.specs.List.{slice_get};
 ghost use Rattle.monitor.specs.Steps.{state, step, standing_of};

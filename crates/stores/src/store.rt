@@ -10,8 +10,6 @@ use crate::visits::{Edit, Visit, visit_row};
 pub trait Store {
     ghost tables: { Self → List Table };
 
-    ghost sound: { (s : Self) → Sound (tables s) };
-
     fn table_count(&self) -> usize
         ensures { result ≡ length (tables self.now) };
 
@@ -33,7 +31,7 @@ pub trait Store {
         ensures change { changed result (tables self.new) ≡ removing (tables self.old) table place }
         ensures limits { SameLimits (tables self.old) (tables self.new) };
 
-    // Every row of a table is visited, front to back.
+    // Every row of a table is visited, front to back. Rows are asked for by their places, since a store may keep them anywhere.
     fn walk<V: Visit>(&self, table: usize, visitor: &mut V)
         ensures { visitor.new ≡ fold V.Visit.step visitor.old (rows_in (tables self.now) table) }
     {
@@ -67,4 +65,7 @@ pub trait Store {
         }
         touched
     }
+
+    // What each store must prove: a law, since it stands below the last function.
+    ghost sound: { (s : Self) → Sound (tables s) };
 }

@@ -1,4 +1,5 @@
 // What is taken along over the rows of a table: a visitor that sees each, an editor that decides on each.
+// Traits and no closures: what they do is a function that an equation can name, and no caller owes that it may be called.
 ghost use Rattle.std.specs.Prelude.{◌≡◌};
 ghost use Rattle.stores.specs.Visits.{perhaps};
 ghost use Rattle.stores.specs.declared.rows.Fate.{Fate};

@@ -8,6 +8,6 @@ use Rattle.tables.proofs.scans.count_matching.Goals as goal
 pub returns : goal.returns
 returns g c =
     let ts = g.S.Store.tables c.args.store.now in
-    let few = few_rows ts c.args.table (g.S.Store.sound c.args.store.now) in
+    let few = few_rows ts c.args.table (g.met.S.Store.sound c.args.store.now) in
     let all = rows_counted (rows_in ts c.args.table) (record { predicate = c.args.predicate; count = 0 }) (omega (arith, few)) in
     ap (λ (v : Count). v.count) c.walk.ensures ∙ all ∙ zero-add _
