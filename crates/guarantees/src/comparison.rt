@@ -6,7 +6,7 @@ ghost use Rattle.guarantees.specs.Compare.{NobodyLearnsHere, NobodyLearnsAbove};
 ghost use Rattle.guarantees.specs.Course.{LabelsRiseHere, LabelsOnlyRise};
 
 use labels::Label;
-use monitor::{Event, Request, ShortBuffer, serve_all};
+use monitor::{Event, Monitor, Request, ShortBuffer};
 use sessions::Session;
 use stores::Store;
 use tables::{Place, TableRecord};
@@ -26,19 +26,17 @@ impl<'a, L: Label, S: Store> Side<'a, L, S> {
         ensures loans { SameLoans self.old self.new }
         ensures served { listed result (monitor_of S.Store.tables self.new) self.new.events.now self.new.places.now ≡ serving_all L.Label.kind records.now (monitor_of S.Store.tables self.old) self.old.requests.now self.old.events.now self.old.places.now }
     {
-        serve_all(
-            self.sessions,
+        let mut monitor = Monitor {
+            sessions: &mut *self.sessions,
             records,
-            self.store,
-            self.requests,
-            self.events,
-            self.places,
-        )
+            store: &mut *self.store,
+        };
+        monitor.serve_all(self.requests, self.events, self.places)
     }
 }
 
 // Serves a list of requests on each of two monitors with the same table records. What each list returns and leaves is what
-// `serve_all` says; and, if the monitors are new and alike, nobody learns from either what lies above his label.
+// `Monitor::serve_all` says; and, if the monitors are new and alike, nobody learns from either what lies above his label.
 pub fn serve_both<L: Label, S: Store, T: Store>(
     records: &[TableRecord<L>],
     left: &mut Side<L, S>,

@@ -5,4 +5,4 @@ mod requests;
 mod serving;
 
 pub use requests::{Answer, Ask, Event, Request, ShortBuffer};
-pub use serving::{serve, serve_all};
+pub use serving::Monitor;
