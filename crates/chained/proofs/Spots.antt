@@ -6,9 +6,8 @@ use Rattle.std.proofs.lemmas.List.{get_or-map}
 use Rattle.stores.specs.Tables.{Table}
 use Rattle.chained.specs.declared.links.Cell.{Cell}
 use Rattle.chained.specs.declared.links.Chain.{Chain}
-use Rattle.chained.specs.declared.links.Links.{Links}
 use Rattle.chained.specs.declared.links.Spot.{Spot}
-use Rattle.chained.specs.Links.{no_cell, cell_at, used, unused, rows_of_chain, table_in, times, room, Ends}
+use Rattle.chained.specs.Links.{Links, no_cell, cell_at, used, unused, rows_of_chain, table_in, times, room, Ends}
 use Rattle.chained.specs.Steps.{held, Inside, Linked, Relinked, Rewritten, Found}
 use Rattle.chained.proofs.Places.{times_at, room_le, room_there, length_places, sole, cut_at}
 

@@ -6,9 +6,10 @@ use Rattle.stores.specs.declared.rows.Fate.{Fate}
 use Rattle.stores.specs.declared.rows.Fate.TheVariants.{Keep, Rewrite, Remove}
 use Rattle.stores.specs.Changes.{row, without, left_by, edited, counts, touched, sweeping}
 use Rattle.chained.specs.declared.links.Cell.{Cell}
-use Rattle.chained.specs.declared.links.Links.{Links}
+use Rattle.chained.specs.declared.links.Chain.{Chain}
+use Rattle.chained.specs.declared.links.Free.{Free}
 use Rattle.chained.specs.declared.links.Spot.{Spot}
-use Rattle.chained.specs.Links.{no_cell, cell_at, used, rows_of_chain, Ends}
+use Rattle.chained.specs.Links.{Links, links, no_cell, cell_at, used, rows_of_chain, Ends}
 use Rattle.chained.specs.Steps.{values_set, Linked, Relinked, Rewritten, Found, Unlinked, Alone}
 use Rattle.chained.proofs.Places.{next_place, found_first, found_next, cut_at, skip_at}
 use Rattle.chained.proofs.Spots.{rows_long, same_links, linked_after, links_twice, long, here_there, row_found}
@@ -166,15 +167,15 @@ module _ {fate : Row → Fate} {before : List Cell} {at : Links} (ok : Linked be
       }
 
       -- the same, by what the turn leaves in each variable
-      module _ (cells' : List Cell) (l' : Links) (s' : Spot) (place' count' : ℕ) where
+      module _ (cells' : List Cell) (c' : Chain) (f' : Free) (s' : Spot) (place' count' : ℕ) where
         abbrev After : Type 0
-        After = Halfway fate before at cells' l' place' count' (turn + 1) (record { before = s'.before; here = here.next })
+        After = Halfway fate before at cells' (links c' f') place' count' (turn + 1) (record { before = s'.before; here = here.next })
 
-        pub turn_keep : Keep ≡ fate here.row → cells' ≡ cells → l' ≡ l → s' ≡ record { before = s.here; here = s.here } → place' ≡ place + 1 → count' ≡ count → After
-        turn_keep e a b c d f = rw (a, b, c, d, f) (keeps e)
+        pub turn_keep : Keep ≡ fate here.row → cells' ≡ cells → c' ≡ l.chain → f' ≡ l.free → s' ≡ record { before = s.here; here = s.here } → place' ≡ place + 1 → count' ≡ count → After
+        turn_keep e a b c d i j = rw (a, b, c, d, i, j) (keeps e)
 
-        pub turn_rewrite : (f g : ℤ) → Rewrite f g ≡ fate here.row → cells' ≡ values_set cells s.here f g → l' ≡ l → s' ≡ record { before = s.here; here = s.here } → place' ≡ place + 1 → count' ≡ count + 1 → After
-        turn_rewrite f g e a b c d i = rw (a, b, c, d, i) (rewrites f g e)
+        pub turn_rewrite : (f g : ℤ) → Rewrite f g ≡ fate here.row → cells' ≡ values_set cells s.here f g → c' ≡ l.chain → f' ≡ l.free → s' ≡ record { before = s.here; here = s.here } → place' ≡ place + 1 → count' ≡ count + 1 → After
+        turn_rewrite f g e a b c d i j = rw (a, b, c, d, i, j) (rewrites f g e)
 
-        pub turn_remove : {m : Links} {after : List Cell} → Remove ≡ fate here.row → Unlinked l m place cells after → cells' ≡ after → l' ≡ m → s' ≡ s → place' ≡ place → count' ≡ count + 1 → After
-        turn_remove e u a b c d i = rw (a, b, c, d, i) (removes e u)
+        pub turn_remove : {m : Links} {after : List Cell} → Remove ≡ fate here.row → Unlinked l m place cells after → cells' ≡ after → c' ≡ m.chain → f' ≡ m.free → s' ≡ s → place' ≡ place → count' ≡ count + 1 → After
+        turn_remove e u a b c d i j = rw (a, b, c, d, i, j) (removes e u)

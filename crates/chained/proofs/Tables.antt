@@ -8,9 +8,8 @@ use Rattle.stores.specs.Tables.{key_limit}
 use Rattle.stores.specs.Changes.{row, adding, replacing, removing}
 use Rattle.chained.specs.declared.links.Cell.{Cell}
 use Rattle.chained.specs.declared.links.Chain.{Chain}
-use Rattle.chained.specs.declared.links.Links.{Links}
 use Rattle.chained.specs.declared.links.Spot.{Spot}
-use Rattle.chained.specs.Links.{no_cell, cell_at, used, rows_of_chain}
+use Rattle.chained.specs.Links.{Links, no_cell, cell_at, used, rows_of_chain}
 use Rattle.chained.specs.Steps.{values_set, Linked, Rewritten, Found, Unlinked, Appended, Alone}
 use Rattle.chained.proofs.Spots.{rows_long, unchanged, row_found}
 use Rattle.chained.proofs.Rewrites.{rewritten_links, rewritten_ends, rewritten_rows}

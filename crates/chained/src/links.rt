@@ -9,7 +9,7 @@ pub struct Cell {
 }
 
 // The chain of a table: its first and last cell, how many rows it has and may have, and how many keys were given in it.
-#[derive(Clone, Copy)]
+#[derive(Clone, Copy, Default)]
 pub struct Chain {
     pub head: usize,
     pub last: usize,
@@ -23,13 +23,6 @@ pub struct Chain {
 pub struct Free {
     pub head: usize,
     pub count: usize,
-}
-
-// All that a change of one table may change beside the cells.
-#[derive(Clone, Copy)]
-pub struct Links {
-    pub chain: Chain,
-    pub free: Free,
 }
 
 // The cell of a row, and of the row before it if there is one.

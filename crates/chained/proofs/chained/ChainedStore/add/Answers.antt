@@ -1,21 +1,23 @@
-use Rattle.std.proofs.Common.{refl, ◌∙◌, length-set, to_z-of_z}
+use Rattle.std.proofs.Common.{refl, arith, length-set, to_z-of_z}
+use Rattle.chained.specs.declared.links.Chain.{Chain}
 use Rattle.stores.proofs.Limits.{add_limits}
-use Rattle.stores.proofs.Local.{none_adding, adding_local}
-use Rattle.chained.proofs.Meaning.{no_table, linked_there, laid_anew, change_after}
+use Rattle.stores.proofs.Local.{adding_local}
+use Rattle.chained.proofs.Meaning.{chain_written, linked_there, laid_anew, change_after}
 use Rattle.chained.proofs.chained.ChainedStore.add.Goals as goal
 
-pub returns-then-table-self : goal.returns-then-table-self
-returns-then-table-self c = record { change = none_adding _ c.args.table (no_table c.args.self.now c.args.table c.if-table-self.true) c.args.first c.args.second; limits = refl }
+pub add-requires : goal.add-requires
+add-requires c = let p = c.args.self.now in linked_there p c.args.table (chain_written p c.args.table (c.in-Some.ensures.variant.0 refl) c.in-Some.ensures.value)
 
-pub add-answer-requires : goal.add-answer-requires
-add-answer-requires c = linked_there c.args.self.now c.args.table c.if-table-self.false
-
-pub invariant_of-self : goal.invariant_of-self
-invariant_of-self c =
-    let l = laid_anew c.args.self.now c.args.table c.if-table-self.false _ (adding_local c.args.first c.args.second) _ _ _ (simp (to_z-of_z c.ranges.first, to_z-of_z c.ranges.second) at c.add-answer.ensures) in
-    record { room = length-set _ _ _ ∙ c.args.self.now.room; few = c.args.self.now.few; laid = ∣ l ∣₁ }
+pub invariant_of-self-2 : goal.invariant_of-self-2
+invariant_of-self-2 c =
+    let p = c.args.self.now in
+    let there = chain_written p c.args.table (c.in-Some.ensures.variant.0 refl) c.in-Some.ensures.value in
+    let laid = laid_anew p c.args.table there _ (adding_local c.args.first c.args.second) _ _ _ (simp (to_z-of_z c.ranges.first, to_z-of_z c.ranges.second) at c.add.ensures) in
+    record { few = omega (arith, p.few, length-set {A = Chain}); laid = ∣ laid ∣₁ }
 
 pub returns : goal.returns
 returns c =
-    let e = change_after c.args.self.now c.args.table c.if-table-self.false _ (adding_local c.args.first c.args.second) _ _ _ (simp (to_z-of_z c.ranges.first, to_z-of_z c.ranges.second) at c.add-answer.ensures) in
-    record { change = e; limits = add_limits _ c.args.table _ _ c.args.first c.args.second e }
+    let p = c.args.self.now in
+    let there = chain_written p c.args.table (c.in-Some.ensures.variant.0 refl) c.in-Some.ensures.value in
+    let change = change_after p c.args.table there _ (adding_local c.args.first c.args.second) _ _ _ (simp (to_z-of_z c.ranges.first, to_z-of_z c.ranges.second) at c.add.ensures) in
+    record { change = change; limits = add_limits _ c.args.table _ _ c.args.first c.args.second change }

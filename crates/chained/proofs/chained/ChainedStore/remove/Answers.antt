@@ -1,21 +1,23 @@
-use Rattle.std.proofs.Common.{refl, ◌∙◌, length-set}
+use Rattle.std.proofs.Common.{refl, arith, length-set}
+use Rattle.chained.specs.declared.links.Chain.{Chain}
 use Rattle.stores.proofs.Limits.{remove_limits}
-use Rattle.stores.proofs.Local.{none_removing, removing_local}
-use Rattle.chained.proofs.Meaning.{no_table, linked_there, laid_anew, change_after}
+use Rattle.stores.proofs.Local.{removing_local}
+use Rattle.chained.proofs.Meaning.{chain_written, linked_there, laid_anew, change_after}
 use Rattle.chained.proofs.chained.ChainedStore.remove.Goals as goal
 
-pub returns-then-table-self : goal.returns-then-table-self
-returns-then-table-self c = record { change = none_removing _ c.args.table (no_table c.args.self.now c.args.table c.if-table-self.true) c.args.place; limits = refl }
+pub remove-requires : goal.remove-requires
+remove-requires c = let p = c.args.self.now in linked_there p c.args.table (chain_written p c.args.table (c.in-Some.ensures.variant.0 refl) c.in-Some.ensures.value)
 
-pub remove-answer-requires : goal.remove-answer-requires
-remove-answer-requires c = linked_there c.args.self.now c.args.table c.if-table-self.false
-
-pub invariant_of-self : goal.invariant_of-self
-invariant_of-self c =
-    let l = laid_anew c.args.self.now c.args.table c.if-table-self.false _ (removing_local c.args.place) _ _ _ c.remove-answer.ensures in
-    record { room = length-set _ _ _ ∙ c.args.self.now.room; few = c.args.self.now.few; laid = ∣ l ∣₁ }
+pub invariant_of-self-2 : goal.invariant_of-self-2
+invariant_of-self-2 c =
+    let p = c.args.self.now in
+    let there = chain_written p c.args.table (c.in-Some.ensures.variant.0 refl) c.in-Some.ensures.value in
+    let laid = laid_anew p c.args.table there _ (removing_local c.args.place) _ _ _ c.remove.ensures in
+    record { few = omega (arith, p.few, length-set {A = Chain}); laid = ∣ laid ∣₁ }
 
 pub returns : goal.returns
 returns c =
-    let e = change_after c.args.self.now c.args.table c.if-table-self.false _ (removing_local c.args.place) _ _ _ c.remove-answer.ensures in
-    record { change = e; limits = remove_limits _ c.args.table _ _ c.args.place e }
+    let p = c.args.self.now in
+    let there = chain_written p c.args.table (c.in-Some.ensures.variant.0 refl) c.in-Some.ensures.value in
+    let change = change_after p c.args.table there _ (removing_local c.args.place) _ _ _ c.remove.ensures in
+    record { change = change; limits = remove_limits _ c.args.table _ _ c.args.place change }

@@ -1,22 +1,23 @@
-use Rattle.std.proofs.Common.{refl, ◌∙◌, length-set}
+use Rattle.std.proofs.Common.{refl, arith, length-set}
+use Rattle.chained.specs.declared.links.Chain.{Chain}
 use Rattle.stores.proofs.Limits.{sweep_limits}
-use Rattle.stores.proofs.Local.{none_sweeping, sweeping_local}
-use Rattle.chained.proofs.Meaning.{no_table, linked_there, laid_anew, change_after}
+use Rattle.stores.proofs.Local.{sweeping_local}
+use Rattle.chained.proofs.Meaning.{chain_written, linked_there, laid_anew, change_after}
 use Rattle.chained.proofs.chained.ChainedStore.sweep.Goals as goal
 
-pub returns-then-table-self : goal.returns-then-table-self
-returns-then-table-self g c =
-    record { change = none_sweeping _ c.args.table (no_table c.args.self.now c.args.table c.if-table-self.true) (g.E.Edit.decides c.args.editor.now); limits = refl }
+pub sweep-requires : goal.sweep-requires
+sweep-requires g c = let p = c.args.self.now in linked_there p c.args.table (chain_written p c.args.table (c.in-Some.ensures.variant.0 refl) c.in-Some.ensures.value)
 
-pub sweep-answer-requires : goal.sweep-answer-requires
-sweep-answer-requires g c = linked_there c.args.self.now c.args.table c.if-table-self.false
-
-pub invariant_of-self : goal.invariant_of-self
-invariant_of-self g c =
-    let l = laid_anew c.args.self.now c.args.table c.if-table-self.false _ (sweeping_local (g.E.Edit.decides c.args.editor.now)) _ _ _ c.sweep-answer.ensures in
-    record { room = length-set _ _ _ ∙ c.args.self.now.room; few = c.args.self.now.few; laid = ∣ l ∣₁ }
+pub invariant_of-self-2 : goal.invariant_of-self-2
+invariant_of-self-2 g c =
+    let p = c.args.self.now in
+    let there = chain_written p c.args.table (c.in-Some.ensures.variant.0 refl) c.in-Some.ensures.value in
+    let laid = laid_anew p c.args.table there _ (sweeping_local (g.E.Edit.decides c.args.editor.now)) _ _ _ c.sweep.ensures in
+    record { few = omega (arith, p.few, length-set {A = Chain}); laid = ∣ laid ∣₁ }
 
 pub returns : goal.returns
 returns g c =
-    let e = change_after c.args.self.now c.args.table c.if-table-self.false _ (sweeping_local (g.E.Edit.decides c.args.editor.now)) _ _ _ c.sweep-answer.ensures in
-    record { change = e; limits = sweep_limits _ c.args.table _ _ (g.E.Edit.decides c.args.editor.now) e }
+    let p = c.args.self.now in
+    let there = chain_written p c.args.table (c.in-Some.ensures.variant.0 refl) c.in-Some.ensures.value in
+    let change = change_after p c.args.table there _ (sweeping_local (g.E.Edit.decides c.args.editor.now)) _ _ _ c.sweep.ensures in
+    record { change = change; limits = sweep_limits _ c.args.table _ _ (g.E.Edit.decides c.args.editor.now) change }

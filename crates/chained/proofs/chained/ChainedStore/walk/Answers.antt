@@ -1,14 +1,17 @@
 use Rattle.std.proofs.Common.{fold, sym, ap, ◌∙◌}
 use Rattle.stores.specs.Tables.{rows_of}
-use Rattle.chained.proofs.Meaning.{no_table, inside_there, table_there}
+use Rattle.chained.proofs.Meaning.{chain_read, no_chain, inside_there, table_there}
 use Rattle.chained.proofs.chained.ChainedStore.walk.Goals as goal
 
 pub walk-requires : goal.walk-requires
-walk-requires g c = inside_there c.args.self.now c.args.table c.if-table-self.true
+walk-requires g c = let p = c.args.self.now in inside_there p c.args.table (chain_read p c.args.table c.deref.ensures.0 c.in-Some.ensures.lookup.0 c.in-Some.ensures.lookup.1)
 
-pub returns-then-table-self : goal.returns-then-table-self
-returns-then-table-self g c =
-    c.walk.ensures ∙ sym (ap (λ o. fold g.V.Visit.step c.args.visitor.now (rows_of o)) (table_there c.args.self.now c.args.table c.if-table-self.true))
+pub returns-in-Some : goal.returns-in-Some
+returns-in-Some g c =
+    let p = c.args.self.now in
+    let there = table_there p c.args.table (chain_read p c.args.table c.deref.ensures.0 c.in-Some.ensures.lookup.0 c.in-Some.ensures.lookup.1) in
+    c.walk.ensures ∙ sym (ap (λ o. fold g.V.Visit.step c.args.visitor.now (rows_of o)) there)
 
-pub returns-else-table-self : goal.returns-else-table-self
-returns-else-table-self g c = sym (ap (λ o. fold g.V.Visit.step c.args.visitor.now (rows_of o)) (no_table c.args.self.now c.args.table c.if-table-self.false))
+pub returns-in_default : goal.returns-in_default
+returns-in_default g c =
+    sym (ap (λ o. fold g.V.Visit.step c.args.visitor.now (rows_of o)) (no_chain c.args.self.now c.args.table c.deref.ensures.0 c.in_default.ensures.lookup.0))

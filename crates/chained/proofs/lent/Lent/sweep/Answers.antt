@@ -20,14 +20,14 @@ rewrite-requires g c = spot_there c.requires c.loop-turn.invariant (omega arith)
 pub loop-turn-preserved : goal.loop-turn-preserved
 loop-turn-preserved g c =
     elim c.match-decide.branch [
-      | in-Keep w ↦ turn_keep c.requires c.loop-turn.invariant (omega arith) _ _ _ _ _ w.in-Keep.ensures (ap (λ (l : Lent). l.cells.now) w.self-is) w.links-is w.spot-is w.place-is w.touched-is
+      | in-Keep w ↦ turn_keep c.requires c.loop-turn.invariant (omega arith) _ _ _ _ _ _ w.in-Keep.ensures (ap (λ (l : Lent). l.cells.now) w.self-is) w.chain-is w.free-is w.spot-is w.place-is w.touched-is
       | in-Rewrite w ↦
           let f : SFits w32 w.in-Rewrite.first = search rules in
           let s : SFits w32 w.in-Rewrite.second = search rules in
-          turn_rewrite c.requires c.loop-turn.invariant (omega arith) _ _ _ _ _ w.in-Rewrite.first w.in-Rewrite.second w.in-Rewrite.ensures (ap (λ (l : Lent). l.cells.now) w.self-is ∙ simp to_z-of_z at w.rewrite.ensures)
-          w.links-is w.spot-is w.place-is w.touched-is
+          turn_rewrite c.requires c.loop-turn.invariant (omega arith) _ _ _ _ _ _ w.in-Rewrite.first w.in-Rewrite.second w.in-Rewrite.ensures (ap (λ (l : Lent). l.cells.now) w.self-is ∙ simp to_z-of_z at w.rewrite.ensures)
+          w.chain-is w.free-is w.spot-is w.place-is w.touched-is
       | in-Remove w ↦
-          turn_remove c.requires c.loop-turn.invariant (omega arith) _ _ _ _ _ w.in-Remove.ensures w.unlink-links.ensures (ap (λ (l : Lent). l.cells.now) w.self-is) w.links-is w.spot-is w.place-is w.touched-is
+          turn_remove c.requires c.loop-turn.invariant (omega arith) _ _ _ _ _ _ w.in-Remove.ensures w.unlink.ensures (ap (λ (l : Lent). l.cells.now) w.self-is) w.chain-is w.free-is w.spot-is w.place-is w.touched-is
     ]
 
 pub returns : goal.returns
