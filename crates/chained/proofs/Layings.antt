@@ -1,6 +1,7 @@
 -- Chains laid out from limits, and cells that are linked in their order. Assumes nothing.
-use Rattle.std.proofs.Common.{◌≡◌, ℕ, zero, suc, ◌+◌, ◌<◌, ◌≤◌, ltb, List, [], ◌∷◌, map, length, sum, refl, ap, ⊎_elim, arith}
+use Rattle.std.proofs.Common.{◌∙◌, ◌≡◌, ℕ, zero, suc, ◌+◌, ◌<◌, ◌≤◌, ltb, List, [], ◌∷◌, map, length, sum, refl, ap, ⊎_elim, arith}
 use Rattle.std.specs.List.{AllByRecursion}
+use lib.ListN.{length-map}
 use Rattle.std.proofs.lemmas.List.Sums.{sum_by-cons}
 use Rattle.std.proofs.lemmas.Bool.{cases_eq, eq-eqb, ne_eqb, ltb-false, cond_both}
 use Rattle.stores.specs.Layout.{new_tables}
@@ -39,12 +40,15 @@ module _ (cells : List Cell) where
   empty_tables [] = refl
   empty_tables (l ∷ ls) = ap (λ ts. table_in cells (empty_chain l) ∷ ts) (empty_tables ls)
 
-  module _ (ls : List ℕ) (n : ℕ) (chains : List Chain) (laid : chains ≡ map empty_chain ls) where
+  module _ (ls : List ℕ) (chains : List Chain) (laid : chains ≡ map empty_chain ls) where
     pub new_means : tables_of cells chains ≡ new_tables ls
     new_means = rw laid (empty_tables ls)
 
-    pub new_laid : n ≡ sum ls → n ≤ 2048 → n ≤ length cells → InOrder cells n → Laid cells (record { head = 0; count = n }) chains
-    new_laid s small fits o = rw laid (record {
+    pub new_few : length chains ≡ length ls
+    new_few = ap length laid ∙ length-map ls empty_chain
+
+    pub new_laid : (n : ℕ) → n ≡ sum ls → n ≤ 2048 → n ≤ length cells → InOrder cells n → Laid cells (record { head = 0; count = n }) chains
+    new_laid n s small fits o = rw laid (record {
       each = empty_lies ls;
       once = λ q. omega (arith, in_room cells n o fits q, empty_total (λ c. times q (used cells c)) ls (λ l. refl));
       full = omega (arith, empty_total (λ c. c.count) ls (λ l. refl), limits_total ls);

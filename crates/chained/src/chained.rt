@@ -6,7 +6,7 @@ ghost use Rattle.stores.specs.Plans.{limits_of};
 ghost use Rattle.chained.specs.Links.{Laid, tables_of};
 ghost use Rattle.chained.specs.Soundness.{sound_store};
 
-use crate::laying::{empty_chains, sum_of_limits};
+use crate::laying::empty_chains;
 use crate::lent::Lent;
 use crate::links::{Cell, Chain, Free};
 use arrayvec::ArrayVec;
@@ -30,7 +30,7 @@ impl<'a> Chained<'a> {
         let chains = empty_chains(&plan);
         let free = Free {
             head: 0,
-            count: sum_of_limits(&plan),
+            count: plan.limits().iter().sum(),
         };
         let mut lent = Lent { cells };
         lent.link_up(free.count);

@@ -1,5 +1,5 @@
 // The chains of a new store.
-ghost use Rattle.std.specs.Prelude.{◌≡◌, map, sum};
+ghost use Rattle.std.specs.Prelude.{◌≡◌, map};
 ghost use Rattle.stores.specs.Plans.{limits_of};
 ghost use Rattle.chained.specs.Steps.{empty_chain};
 
@@ -11,17 +11,11 @@ pub fn empty_chains<const N: usize>(plan: &Plan<N>) -> ArrayVec<Chain, 8>
     ensures { result.items ≡ map empty_chain (limits_of plan.now) }
 {
     let mut chains = ArrayVec::new();
-    for limit in plan.limits() {
+    for &limit in plan.limits() {
         chains.push(Chain {
-            limit: *limit,
+            limit,
             ..Chain::default()
         });
     }
     chains
-}
-
-pub fn sum_of_limits<const N: usize>(plan: &Plan<N>) -> usize
-    ensures { result ≡ sum (limits_of plan.now) }
-{
-    plan.limits().iter().sum()
 }

@@ -143,8 +143,7 @@ impl<'a> Lent<'a> {
         requires { cell < length self.old.cells.now }
         ensures { self.new.cells.now ≡ link_set self.old.cells.now cell next }
     {
-        let row = self.cells[cell].row;
-        self.cells[cell] = Cell { row, next };
+        self.cells[cell].next = next;
     }
 
     // The values of the row in a cell are set; its key stays, and the link.
@@ -152,13 +151,12 @@ impl<'a> Lent<'a> {
         requires { cell < length self.old.cells.now }
         ensures { self.new.cells.now ≡ values_set self.old.cells.now cell first second }
     {
-        let Cell { row, next } = self.cells[cell];
-        let row = Row {
-            key: row.key,
+        let row = &mut self.cells[cell].row;
+        *row = Row {
             first,
             second,
+            ..*row
         };
-        self.cells[cell] = Cell { row, next };
     }
 
     // The first cells of a chain, so many that end in `last`, lead on to another cell; answers the head of the chain.
@@ -180,15 +178,12 @@ impl<'a> Lent<'a> {
         ensures { Appended (links chain.old free.old) (links chain.new free.new) row self.old.cells.now self.new.cells.now }
     {
         let cell = free.head;
-        let rest = self.cells[cell].next;
+        free.head = self.cells[cell].next;
+        free.count -= 1;
         chain.head = self.lead_on(chain.head, chain.count, chain.last, cell);
         self.cells[cell] = Cell { row, next: cell };
         chain.last = cell;
         chain.count += 1;
-        *free = Free {
-            head: rest,
-            count: free.count - 1,
-        };
     }
 
     // The row at a place leaves its table, and its cell becomes the first of the free ones.
@@ -205,9 +200,7 @@ impl<'a> Lent<'a> {
             chain.last = spot.before;
         }
         chain.count -= 1;
-        *free = Free {
-            head: spot.here,
-            count: free.count + 1,
-        };
+        free.head = spot.here;
+        free.count += 1;
     }
 }
