@@ -1,14 +1,19 @@
 -- Chains laid out from limits, and cells that are linked in their order. Assumes nothing.
-use Rattle.std.proofs.Common.{◌∙◌, ◌≡◌, ℕ, zero, suc, ◌+◌, ◌<◌, ◌≤◌, ltb, List, [], ◌∷◌, map, length, sum, refl, ap, ⊎_elim, arith}
+use Rattle.std.proofs.Common.{◌∙◌, ◌≡◌, ℕ, zero, suc, ◌+◌, ◌<◌, ◌≤◌, ltb, List, [], ◌∷◌, ◌++◌, map, length, sum, refl, ap, ⊎_elim, arith}
 use Rattle.std.specs.List.{AllByRecursion}
 use lib.ListN.{length-map}
+use Rattle.std.proofs.lemmas.List.{get_or_append_left}
 use Rattle.std.proofs.lemmas.List.Sums.{sum_by-cons}
 use Rattle.std.proofs.lemmas.Bool.{cases_eq, eq-eqb, ne_eqb, ltb-false, cond_both}
 use Rattle.stores.specs.Layout.{new_tables}
 use Rattle.chained.specs.declared.links.Cell.{Cell}
 use Rattle.chained.specs.declared.links.Chain.{Chain}
-use Rattle.chained.specs.Links.{places, used, table_in, tables_of, times, total, room, Lies, Laid}
+use Rattle.chained.specs.Links.{no_cell, places, used, table_in, tables_of, times, total, room, Lies, Laid}
 use Rattle.chained.specs.Steps.{empty_chain, InOrder}
+
+-- what holds of the first cells, whichever the others are
+pub in_order_front : (front rest : List Cell) (n : ℕ) → n ≤ length front → InOrder front n → InOrder (front ++ rest) n
+in_order_front front rest n h o k below = ap (λ (c : Cell). c.next) (get_or_append_left front rest no_cell k (omega arith)) ∙ o k below
 
 -- a cell stands at most once among those from p on that are linked in their order
 once_each : (cells : List Cell) (n : ℕ) → InOrder cells n → (m p q : ℕ) → p + m ≤ n → (times q (places cells p m) ≤ 1) × (q < p → times q (places cells p m) ≡ 0) × (p + m ≤ q → times q (places cells p m) ≡ 0)

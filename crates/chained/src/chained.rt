@@ -6,7 +6,7 @@ ghost use Rattle.stores.specs.Plans.{limits_of};
 ghost use Rattle.chained.specs.Links.{Laid, tables_of};
 ghost use Rattle.chained.specs.Soundness.{sound_store};
 
-use crate::laying::empty_chains;
+use crate::laying::{empty_chains, link_in_order};
 use crate::lent::Lent;
 use crate::links::{Cell, Chain, Free};
 use arrayvec::ArrayVec;
@@ -27,14 +27,13 @@ impl<'a> Chained<'a> {
     pub fn new<const N: usize>(plan: Plan<N>, cells: &'a mut [Cell; N]) -> Chained<'a>
         ensures { tables_of result.lent.cells.now result.chains.items ≡ new_tables (limits_of plan.entry) }
     {
-        let chains = empty_chains(&plan);
-        let free = Free {
-            head: 0,
-            count: plan.limits().iter().sum(),
-        };
-        let mut lent = Lent { cells };
-        lent.link_up(free.count);
-        Chained { lent, chains, free }
+        let count = plan.limits().iter().sum();
+        link_in_order(&mut cells[..count]);
+        Chained {
+            lent: Lent { cells },
+            chains: empty_chains(&plan),
+            free: Free { head: 0, count },
+        }
     }
 }
 

@@ -1,9 +1,9 @@
 // The cells lent to a store, and the steps along their links.
-ghost use Rattle.std.specs.Prelude.{◌≡◌, ◌<◌, ◌≤◌, length, fold, ◌≢◌};
+ghost use Rattle.std.specs.Prelude.{◌≡◌, ◌<◌, length, fold, ◌≢◌};
 ghost use Rattle.stores.specs.Changes.{adding, replacing, removing, sweeping};
 ghost use Rattle.chained.specs.Links.{links, rows_of_chain, used};
 ghost use Rattle.chained.specs.declared.links.Free.{Free};
-ghost use Rattle.chained.specs.Steps.{Alone, Appended, Found, InOrder, Inside, LedOn, Linked, Rewritten, Unlinked, link_set, values_set};
+ghost use Rattle.chained.specs.Steps.{Alone, Appended, Found, Inside, LedOn, Linked, Rewritten, Unlinked, link_set, values_set};
 
 use crate::links::{Cell, Chain, Free, Spot};
 use stores::{AddRefusal, Edit, Fate, Row, Visit};
@@ -15,17 +15,6 @@ pub struct Lent<'a> {
 }
 
 impl<'a> Lent<'a> {
-    // So many cells are linked in their order.
-    pub fn link_up(&mut self, count: usize)
-        requires { count ≤ length self.old.cells.now }
-        ensures long { length self.new.cells.now ≡ length self.old.cells.now }
-        ensures linked { InOrder self.new.cells.now count }
-    {
-        for cell in 0..count {
-            self.link(cell, cell + 1);
-        }
-    }
-
     pub fn walk<V: Visit>(&self, chain: Chain, visitor: &mut V)
         requires { Inside self.now.cells.now chain }
         ensures { visitor.new ≡ fold V.Visit.step visitor.old (rows_of_chain self.now.cells.now chain) }
