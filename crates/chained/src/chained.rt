@@ -53,10 +53,7 @@ impl<'a> Store for Chained<'a> {
 
     fn row(&self, table: usize, place: usize) -> Option<Row> {
         let chain = self.chains.get(table)?;
-        if place >= chain.count {
-            return None;
-        }
-        let spot = self.lent.find(*chain, place);
+        let spot = self.lent.find(*chain, place)?;
         let cell = self.lent.cells[spot.here];
         Some(cell.row)
     }

@@ -1,5 +1,5 @@
 // The cells lent to a store, and the steps along their links.
-ghost use Rattle.std.specs.Prelude.{◌≡◌, ◌<◌, length, fold, ◌≢◌};
+ghost use Rattle.std.specs.Prelude.{◌≡◌, ◌<◌, ◌≤◌, length, fold, ◌≢◌, MatchOption};
 ghost use Rattle.stores.specs.Changes.{adding, replacing, removing, sweeping};
 ghost use Rattle.chained.specs.Links.{links, rows_of_chain, used};
 ghost use Rattle.chained.specs.declared.links.Free.{Free};
@@ -27,11 +27,14 @@ impl<'a> Lent<'a> {
         }
     }
 
-    pub fn find(&self, chain: Chain, place: usize) -> Spot
-        requires inside { Inside self.now.cells.now chain }
-        requires there { place < chain.count }
-        ensures { Found (used self.now.cells.now chain) place result }
+    // Where the row at a place lies, if there is one.
+    pub fn find(&self, chain: Chain, place: usize) -> Option<Spot>
+        requires { Inside self.now.cells.now chain }
+        ensures { MatchOption result (chain.count ≤ place) (λ spot. (place < chain.count) × Found (used self.now.cells.now chain) place spot) }
     {
+        if place >= chain.count {
+            return None;
+        }
         let mut spot = Spot {
             before: chain.head,
             here: chain.head,
@@ -43,7 +46,7 @@ impl<'a> Lent<'a> {
                 here: cell.next,
             };
         }
-        spot
+        Some(spot)
     }
 
     pub fn add(
@@ -73,10 +76,9 @@ impl<'a> Lent<'a> {
         requires { Inside self.old.cells.now chain }
         ensures { (free : Free) → Linked self.old.cells.now (links chain free) → Rewritten (Alone (λ ts n. replacing ts n place first second) result) (links chain free) (links chain free) self.old.cells.now self.new.cells.now }
     {
-        if place >= chain.count {
+        let Some(spot) = self.find(chain, place) else {
             return false;
-        }
-        let spot = self.find(chain, place);
+        };
         self.rewrite(spot.here, first, second);
         true
     }
@@ -85,10 +87,9 @@ impl<'a> Lent<'a> {
         requires { Linked self.old.cells.now (links chain.old free.old) }
         ensures { Rewritten (Alone (λ ts n. removing ts n place) result) (links chain.old free.old) (links chain.new free.new) self.old.cells.now self.new.cells.now }
     {
-        if place >= chain.count {
+        let Some(spot) = self.find(*chain, place) else {
             return false;
-        }
-        let spot = self.find(*chain, place);
+        };
         self.unlink(chain, free, place, spot);
         true
     }
