@@ -10,13 +10,11 @@ use Rattle.stores.specs.Changes.{Changed, changed}
 use Rattle.stores.proofs.Local.{Local}
 use Rattle.chained.specs.declared.links.Cell.{Cell}
 use Rattle.chained.specs.declared.links.Chain.{Chain}
-use Rattle.chained.specs.declared.links.Spot.{Spot}
 use Rattle.chained.specs.declared.chained.Chained.{Chained}
-use Rattle.chained.specs.Links.{Links, links, cell_at, used, table_in, tables_of, Lies, Laid}
-use Rattle.chained.specs.Steps.{Inside, Linked, Found, Alone, Rewritten}
+use Rattle.chained.specs.Links.{Links, links, rows_of_chain, table_in, tables_of, Lies, Laid}
+use Rattle.chained.specs.Steps.{Inside, Linked, Alone, Rewritten}
 use Rattle.chained.specs.Soundness.{opened}
 use Rattle.chained.proofs.Spots.{rows_long, inside}
-use Rattle.chained.proofs.Tables as alone
 use Rattle.chained.proofs.Chains.{lies_at, table_at, linked_at, laid_after, tables_after}
 
 module _ (p : Chained) where
@@ -68,11 +66,8 @@ module _ (p : Chained) where
       pub count_there : Some chain.count ≡ row_count tables n
       count_there = rw (table_there, rows_long cells chain)
 
-      pub no_row : (place : ℕ) → chain.count ≤ place → None ≡ row_at tables n place
-      no_row place h = sym (ap (λ o. slice_get (rows_of o) place) table_there ∙ alone.no_row cells chain place h)
-
-      pub row_there : (place : ℕ) (s : Spot) → place < chain.count → Found (used cells chain) place s → Some (cell_at cells s.here).row ≡ row_at tables n place
-      row_there place s h f = sym (ap (λ o. slice_get (rows_of o) place) table_there ∙ alone.row_there linked_there h f)
+      pub row_there : (place : ℕ) → slice_get (rows_of_chain cells chain) place ≡ row_at tables n place
+      row_there place = sym (ap (λ o. slice_get (rows_of o) place) table_there)
 
       -- the table taken to another by a change, whichever that is
       module _ {A : Type 0} (change : List Table → ℕ → Changed A) (local : Local change) (answer : A) (m : Links) (after : List Cell) (w : Rewritten (Alone change answer) links_there m cells after) where

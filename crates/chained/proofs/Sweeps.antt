@@ -112,7 +112,7 @@ module _ {fate : Row → Fate} {before : List Cell} {at : Links} (ok : Linked be
       rows_within = omega (arith, rows_long cells l.chain, there)
 
       row_is : get_or (rows_of_chain cells l.chain) place no_cell.row ≡ here.row
-      row_is = row_found linked_still there spot_found
+      row_is = row_found cells l.chain there spot_found
 
       spot_next : place + 1 < l.chain.count → Found ps (place + 1) (record { before = s.here; here = here.next })
       spot_next j = found_next cells l.chain.head l.chain.count there spot_found j

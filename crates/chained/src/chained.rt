@@ -53,9 +53,7 @@ impl<'a> Store for Chained<'a> {
 
     fn row(&self, table: usize, place: usize) -> Option<Row> {
         let chain = self.chains.get(table)?;
-        let spot = self.lent.find(*chain, place)?;
-        let cell = self.lent.cells[spot.here];
-        Some(cell.row)
+        self.lent.row(*chain, place)
     }
 
     fn add(&mut self, table: usize, first: i32, second: i32) -> Result<u32, AddRefusal> {

@@ -1,5 +1,5 @@
 // The cells lent to a store, and the steps along their links.
-ghost use Rattle.std.specs.Prelude.{◌≡◌, ◌<◌, ◌≤◌, length, fold, ◌≢◌, MatchOption};
+ghost use Rattle.std.specs.Prelude.{◌≡◌, ◌<◌, ◌≤◌, length, fold, ◌≢◌, MatchOption, slice_get};
 ghost use Rattle.stores.specs.Changes.{adding, replacing, removing, sweeping};
 ghost use Rattle.chained.specs.Links.{links, rows_of_chain, used};
 ghost use Rattle.chained.specs.declared.links.Free.{Free};
@@ -27,26 +27,12 @@ impl<'a> Lent<'a> {
         }
     }
 
-    // Where the row at a place lies, if there is one.
-    pub fn find(&self, chain: Chain, place: usize) -> Option<Spot>
+    pub fn row(&self, chain: Chain, place: usize) -> Option<Row>
         requires { Inside self.now.cells.now chain }
-        ensures { MatchOption result (chain.count ≤ place) (λ spot. (place < chain.count) × Found (used self.now.cells.now chain) place spot) }
+        ensures { result ≡ slice_get (rows_of_chain self.now.cells.now chain) place }
     {
-        if place >= chain.count {
-            return None;
-        }
-        let mut spot = Spot {
-            before: chain.head,
-            here: chain.head,
-        };
-        for _step in 0..place {
-            let cell = self.cells[spot.here];
-            spot = Spot {
-                before: spot.here,
-                here: cell.next,
-            };
-        }
-        Some(spot)
+        let spot = self.find(chain, place)?;
+        Some(self.cells[spot.here].row)
     }
 
     pub fn add(
@@ -126,6 +112,28 @@ impl<'a> Lent<'a> {
             spot.here = cell.next;
         }
         touched
+    }
+
+    // Where the row at a place lies, if there is one.
+    fn find(&self, chain: Chain, place: usize) -> Option<Spot>
+        requires { Inside self.now.cells.now chain }
+        ensures { MatchOption result (chain.count ≤ place) (λ spot. (place < chain.count) × Found (used self.now.cells.now chain) place spot) }
+    {
+        if place >= chain.count {
+            return None;
+        }
+        let mut spot = Spot {
+            before: chain.head,
+            here: chain.head,
+        };
+        for _step in 0..place {
+            let cell = self.cells[spot.here];
+            spot = Spot {
+                before: spot.here,
+                here: cell.next,
+            };
+        }
+        Some(spot)
     }
 
     // The link of a cell is set, and its row stays.
