@@ -1,10 +1,9 @@
 -- What a chained store means at one table, before and after that table is linked anew. Assumes nothing.
-use Rattle.std.proofs.Common.{true, false, ltb, refl, ◌≡◌, ℕ, ◌<◌, ◌≤◌, List, length, get_or, set, Some, None, sym, ap, ◌∙◌, arith}
-use lib.ListN.{length-map}
+use Rattle.std.proofs.Common.{true, ltb, refl, ◌≡◌, ℕ, ◌<◌, List, length, get_or, set, Some, sym, ap, ◌∙◌}
 use Rattle.std.specs.List.{slice_get}
 use Rattle.std.proofs.lemmas.List.{set-get_or}
-use Rattle.std.proofs.lemmas.Option.{slice_get_read, slice_get_past, get_or_from_slice_get}
-use Rattle.std.proofs.lemmas.Bool.{ltb-true, ltb-false}
+use Rattle.std.proofs.lemmas.Option.{slice_get_read, get_or_from_slice_get}
+use Rattle.std.proofs.lemmas.Bool.{ltb-true}
 use Rattle.stores.specs.Tables.{Table, rows_of, row_count, row_at}
 use Rattle.stores.specs.Changes.{Changed, changed}
 use Rattle.stores.proofs.Local.{Local}
@@ -30,22 +29,13 @@ module _ (p : Chained) where
   laid : Laid cells p.free chains
   laid = opened cells p.free chains p.laid
 
-  pub length_tables : length tables ≡ length chains
-  length_tables = length-map chains _
-
   module _ (n : ℕ) where
-    -- a chain that was read at an index
+    -- a chain that was read at an index, or lent to be written there
     pub chain_read : {chain : Chain} {cs : List Chain} → cs ≡ chains → true ≡ ltb n (length cs) → chain ≡ get_or cs n chain → slice_get chains n ≡ Some chain
     chain_read {chain} {cs} e within read = ap (λ ds. slice_get ds n) (sym e) ∙ slice_get_read cs (length cs) n chain refl (ltb-true n (length cs) (sym within)) read
 
-    pub chain_written : {chain : Chain} → n < length chains → chain ≡ get_or chains n chain → slice_get chains n ≡ Some chain
-    chain_written {chain} within read = slice_get_read chains (length chains) n chain refl within read
-
-    pub no_table : length chains ≤ n → slice_get tables n ≡ None
-    no_table h = slice_get_past tables n (omega (arith, length_tables))
-
-    pub no_chain : {cs : List Chain} → cs ≡ chains → false ≡ ltb n (length cs) → slice_get tables n ≡ None
-    no_chain {cs} e past = no_table (omega (arith, ap length e, ltb-false n (length cs) (sym past)))
+    pub chain_lent : {chain : Chain} → n < length chains → chain ≡ get_or chains n chain → slice_get chains n ≡ Some chain
+    chain_lent {chain} within read = slice_get_read chains (length chains) n chain refl within read
 
     module _ {chain : Chain} (chain_there : slice_get chains n ≡ Some chain) where
       abbrev pub links_there : Links

@@ -85,10 +85,7 @@ impl<'a> Lent<'a> {
         requires { Linked self.old.cells.now (links chain.old free.old) }
         ensures { Rewritten (Alone (sweeping (E.Edit.decides editor.now)) result) (links chain.old free.old) (links chain.new free.new) self.old.cells.now self.new.cells.now }
     {
-        let mut spot = Spot {
-            before: chain.head,
-            here: chain.head,
-        };
+        let mut spot = Spot::first(chain.head);
         let mut place = 0;
         let mut touched = 0;
         for _turn in 0..chain.count {
@@ -122,10 +119,7 @@ impl<'a> Lent<'a> {
         if place >= chain.count {
             return None;
         }
-        let mut spot = Spot {
-            before: chain.head,
-            here: chain.head,
-        };
+        let mut spot = Spot::first(chain.head);
         for _step in 0..place {
             let cell = self.cells[spot.here];
             spot = Spot {

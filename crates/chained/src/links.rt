@@ -1,4 +1,6 @@
 // Cells that are linked by their numbers, and the chains that they form.
+ghost use Rattle.std.specs.Prelude.{◌≡◌};
+
 use stores::Row;
 
 // A row, and the number of the cell that comes after it.
@@ -30,4 +32,16 @@ pub struct Free {
 pub struct Spot {
     pub before: usize,
     pub here: usize,
+}
+
+impl Spot {
+    // The first row of a chain, which has none before it.
+    pub fn first(head: usize) -> Spot
+        ensures { result ≡ record { before = head; here = head } }
+    {
+        Spot {
+            before: head,
+            here: head,
+        }
+    }
 }

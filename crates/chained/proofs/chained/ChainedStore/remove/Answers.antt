@@ -3,12 +3,12 @@ use Rattle.std.specs.List.{slice_get}
 use Rattle.stores.proofs.Limits.{remove_limits}
 use Rattle.stores.proofs.Local.{removing_local}
 use Rattle.chained.specs.declared.links.Chain.{Chain}
-use Rattle.chained.proofs.Meaning.{chain_written, linked_there, laid_anew, change_after}
+use Rattle.chained.proofs.Meaning.{chain_lent, linked_there, laid_anew, change_after}
 use Rattle.chained.proofs.chained.ChainedStore.remove.Goals as goal
 use Rattle.chained.proofs.chained.ChainedStore.remove.Goals.{In-Some}
 
 there : (c : In-Some) → slice_get c.args.self.now.chains.items c.args.table ≡ Some c.in-Some.chain.now
-there c = chain_written c.args.self.now c.args.table (c.in-Some.ensures.variant.0 refl) c.in-Some.ensures.value
+there c = chain_lent c.args.self.now c.args.table (c.in-Some.ensures.variant.0 refl) c.in-Some.ensures.value
 
 pub remove-requires : goal.remove-requires
 remove-requires c = linked_there c.args.self.now c.args.table (there (goal.at.remove-requires c).In-Some)

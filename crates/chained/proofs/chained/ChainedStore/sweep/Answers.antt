@@ -3,13 +3,13 @@ use Rattle.std.specs.List.{slice_get}
 use Rattle.stores.proofs.Limits.{sweep_limits}
 use Rattle.stores.proofs.Local.{sweeping_local}
 use Rattle.chained.specs.declared.links.Chain.{Chain}
-use Rattle.chained.proofs.Meaning.{chain_written, linked_there, laid_anew, change_after}
+use Rattle.chained.proofs.Meaning.{chain_lent, linked_there, laid_anew, change_after}
 use Rattle.chained.proofs.chained.ChainedStore.sweep.Given.{Over}
 use Rattle.chained.proofs.chained.ChainedStore.sweep.Goals as goal
 use Rattle.chained.proofs.chained.ChainedStore.sweep.Goals.{In-Some}
 
 there : (g : Over) (c : In-Some g) → slice_get c.args.self.now.chains.items c.args.table ≡ Some c.in-Some.chain.now
-there g c = chain_written c.args.self.now c.args.table (c.in-Some.ensures.variant.0 refl) c.in-Some.ensures.value
+there g c = chain_lent c.args.self.now c.args.table (c.in-Some.ensures.variant.0 refl) c.in-Some.ensures.value
 
 pub sweep-requires : goal.sweep-requires
 sweep-requires g c = linked_there c.args.self.now c.args.table (there g (goal.at.sweep-requires g c).In-Some)

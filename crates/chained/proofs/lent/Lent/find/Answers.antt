@@ -5,7 +5,7 @@ use Rattle.chained.proofs.Places.{found_first, found_there, found_next}
 use Rattle.chained.proofs.lent.Lent.find.Goals as goal
 
 pub loop-step-init : goal.loop-step-init
-loop-step-init c n h = found_first c.args.self.now.cells.now c.args.chain.head n (omega arith)
+loop-step-init c n h = rw c.first-spot.ensures (found_first c.args.self.now.cells.now c.args.chain.head n (omega arith))
 
 pub offset_bounds-self-spot : goal.offset_bounds-self-spot
 offset_bounds-self-spot c =

@@ -6,7 +6,7 @@ use Rattle.chained.proofs.lent.Lent.sweep.Goals as goal
 use Rattle.chained.proofs.lent.Lent.sweep.Goals.{in-Keep, in-Rewrite, in-Remove}
 
 pub loop-turn-init : goal.loop-turn-init
-loop-turn-init g c = halfway_none c.requires
+loop-turn-init g c = rw c.first-spot.ensures (halfway_none c.requires)
 
 pub offset_bounds-self-spot : goal.offset_bounds-self-spot
 offset_bounds-self-spot g c = let h = spot_there c.requires c.loop-turn.invariant (omega arith) in omega arith
