@@ -18,6 +18,7 @@ pub struct Chained<'a> {
     lent: Lent<'a>,
     chains: ArrayVec<Chain, 8>,
     free: Free,
+    // A clause sees the elements of the vector, and not its capacity.
     ghost few: { array_vec_len chains ≤ 8 },
     ghost laid: { ∥ Laid lent.cells.now free chains.items ∥₁ },
 }
