@@ -1,5 +1,5 @@
 -- A pass along the links of a chain, front to back. Assumes nothing.
-use Rattle.std.proofs.Common.{◌≡◌, ℕ, suc, ◌+◌, ◌<◌, ◌≤◌, List, [], ◌∷◌, ◌++◌, length, get_or, take, drop, set, ℤ, sym, refl, ap, ◌∙◌, add-zero, add_assoc, add-one, arith}
+use Rattle.std.proofs.Common.{◌≡◌, ℕ, suc, ◌+◌, ◌<◌, ◌≤◌, List, [], ◌∷◌, ◌++◌, length, get_or, take, drop, set, ℤ, sym, ap, ◌∙◌, add-zero, add_assoc, add-one, arith}
 use Rattle.std.proofs.lemmas.List.{append_assoc, append-nil, take_all, drop_all, take_more, drop_more, take_more_set, drop-set-lt, take_at, drop_at, length-take-le, get_or_append_left, get_or-take}
 use Rattle.stores.specs.declared.rows.Row.{Row}
 use Rattle.stores.specs.declared.rows.Fate.{Fate}
@@ -11,8 +11,8 @@ use Rattle.chained.specs.declared.links.Free.{Free}
 use Rattle.chained.specs.declared.links.Spot.{Spot}
 use Rattle.chained.specs.Links.{Links, links, no_cell, cell_at, used, rows_of_chain, Ends}
 use Rattle.chained.specs.Steps.{values_set, Linked, Relinked, Rewritten, Found, Unlinked, Alone}
-use Rattle.chained.proofs.Places.{next_place, found_first, found_next, cut_at, skip_at}
-use Rattle.chained.proofs.Spots.{rows_long, same_links, linked_after, links_twice, long, here_there, row_found}
+use Rattle.chained.proofs.Places.{next_place, found_next, cut_at, skip_at}
+use Rattle.chained.proofs.Spots.{rows_long, linked_after, links_twice, long, here_there, row_found}
 use Rattle.chained.proofs.Rewrites.{same_used, rewritten_links, rewritten_ends, rewritten_rows}
 
 -- the rows before a place are decided, and the others are still to be
@@ -71,18 +71,6 @@ pub record Halfway (fate : Row → Fate) (before : List Cell) (at : Links) (cell
   pub decided : Decided fate (rows_of_chain before at.chain) (rows_of_chain cells l.chain) place count
 
 module _ {fate : Row → Fate} {before : List Cell} {at : Links} (ok : Linked before at) where
-  pub halfway_none : Halfway fate before at before at 0 0 0 (record { before = at.chain.head; here = at.chain.head })
-  halfway_none = record {
-    links = same_links ok;
-    ends = ok.ends;
-    within = ok.within;
-    given = refl;
-    turns = omega arith;
-    few = omega arith;
-    found = found_first before at.chain.head at.chain.count;
-    decided = record { rows = refl; total = omega arith };
-  }
-
   module _ {cells : List Cell} {l : Links} {place count turn : ℕ} {s : Spot} (h : Halfway fate before at cells l place count turn s) where
     linked_still : Linked cells l
     linked_still = linked_after ok l cells h.links h.ends h.within

@@ -1,12 +1,9 @@
 use Rattle.std.proofs.Common.{ap, ◌∙◌, arith, w32, SFits, rules}
 use Rattle.std.proofs.lemmas.Int.{to_z-of_z}
 use Rattle.chained.specs.declared.lent.Lent.{Lent}
-use Rattle.chained.proofs.Sweeps.{halfway_none, halfway_all, spot_there, turn_keep, turn_rewrite, turn_remove}
+use Rattle.chained.proofs.Sweeps.{halfway_all, spot_there, turn_keep, turn_rewrite, turn_remove}
 use Rattle.chained.proofs.lent.Lent.sweep.Goals as goal
 use Rattle.chained.proofs.lent.Lent.sweep.Goals.{in-Keep, in-Rewrite, in-Remove}
-
-pub loop-turn-init : goal.loop-turn-init
-loop-turn-init g c = rw c.first-spot.ensures (halfway_none c.requires)
 
 pub offset_bounds-self-spot : goal.offset_bounds-self-spot
 offset_bounds-self-spot g c = let h = spot_there c.requires c.loop-turn.invariant (omega arith) in omega arith
