@@ -3,8 +3,7 @@ use Rattle.std.proofs.Common.{◌≡◌, ℕ, zero, suc, ◌+◌, ◌-◌, ◌<�
 use Rattle.std.proofs.lemmas.List.{length_push, get_or_push, get_or-set_same, get_or-set_other, map-append}
 use Rattle.stores.specs.declared.rows.Row.{Row}
 use Rattle.chained.specs.declared.links.Cell.{Cell}
-use Rattle.chained.specs.declared.links.Links.{Links}
-use Rattle.chained.specs.Links.{no_cell, cell_at, places, used, unused, times}
+use Rattle.chained.specs.Links.{Links, no_cell, cell_at, places, used, unused, times}
 use Rattle.chained.specs.Steps.{Linked, LedOn, Appended}
 use Rattle.chained.proofs.Places.{times_append, times_here, times_at, apart, length_places, sole}
 use Rattle.chained.proofs.Leads.{leads_places, places_leads, leads_join, places_kept, rows_kept}

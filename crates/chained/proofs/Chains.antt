@@ -5,8 +5,7 @@ use Rattle.stores.specs.Tables.{SoundTable}
 use Rattle.chained.specs.declared.links.Cell.{Cell}
 use Rattle.chained.specs.declared.links.Chain.{Chain}
 use Rattle.chained.specs.declared.links.Free.{Free}
-use Rattle.chained.specs.declared.links.Links.{Links}
-use Rattle.chained.specs.Links.{used, unused, rows_at, rows_of_chain, table_in, times, total, Lies, Laid}
+use Rattle.chained.specs.Links.{Links, used, unused, rows_at, rows_of_chain, table_in, times, total, Lies, Laid}
 use Rattle.chained.specs.Steps.{held, Linked, Relinked}
 use Rattle.chained.proofs.Places.{room_le}
 use Rattle.chained.proofs.Leads.{places_kept, rows_kept}

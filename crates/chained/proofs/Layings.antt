@@ -1,18 +1,19 @@
 -- Chains laid out from limits, and cells that are linked in their order. Assumes nothing.
-use Rattle.std.proofs.Common.{◌≡◌, ℕ, zero, suc, ◌+◌, ◌<◌, ◌≤◌, ltb, List, [], ◌∷◌, map, length, get_or, take, set, sum, refl, ap, ⊎_elim, arith}
+use Rattle.std.proofs.Common.{◌∙◌, ◌≡◌, ℕ, zero, suc, ◌+◌, ◌<◌, ◌≤◌, ltb, List, [], ◌∷◌, ◌++◌, map, length, sum, refl, ap, ⊎_elim, arith}
 use Rattle.std.specs.List.{AllByRecursion}
-use Rattle.std.proofs.lemmas.List.{take_more, take_more_set, map_push}
+use lib.ListN.{length-map}
+use Rattle.std.proofs.lemmas.List.{get_or_append_left}
 use Rattle.std.proofs.lemmas.List.Sums.{sum_by-cons}
 use Rattle.std.proofs.lemmas.Bool.{cases_eq, eq-eqb, ne_eqb, ltb-false, cond_both}
 use Rattle.stores.specs.Layout.{new_tables}
 use Rattle.chained.specs.declared.links.Cell.{Cell}
 use Rattle.chained.specs.declared.links.Chain.{Chain}
-use Rattle.chained.specs.Links.{places, used, table_in, tables_of, times, total, room, Lies, Laid}
+use Rattle.chained.specs.Links.{no_cell, places, used, table_in, tables_of, times, total, room, Lies, Laid}
 use Rattle.chained.specs.Steps.{empty_chain, InOrder}
 
--- one chain more
-pub empty_more : (ls : List ℕ) (cs : List Chain) (i : ℕ) → i < length ls → i < length cs → take i cs ≡ map empty_chain (take i ls) → take (i + 1) (set cs i (empty_chain (get_or ls i 0))) ≡ map empty_chain (take (i + 1) ls)
-empty_more ls cs i h k e = rw (take_more_set cs i (empty_chain (get_or ls i 0)) k, e, take_more ls i 0 h, map_push)
+-- what holds of the first cells, whichever the others are
+pub in_order_front : (front rest : List Cell) (n : ℕ) → n ≤ length front → InOrder front n → InOrder (front ++ rest) n
+in_order_front front rest n h o k below = ap (λ (c : Cell). c.next) (get_or_append_left front rest no_cell k (omega arith)) ∙ o k below
 
 -- a cell stands at most once among those from p on that are linked in their order
 once_each : (cells : List Cell) (n : ℕ) → InOrder cells n → (m p q : ℕ) → p + m ≤ n → (times q (places cells p m) ≤ 1) × (q < p → times q (places cells p m) ≡ 0) × (p + m ≤ q → times q (places cells p m) ≡ 0)
@@ -44,12 +45,15 @@ module _ (cells : List Cell) where
   empty_tables [] = refl
   empty_tables (l ∷ ls) = ap (λ ts. table_in cells (empty_chain l) ∷ ts) (empty_tables ls)
 
-  module _ (ls : List ℕ) (count n : ℕ) (chains : List Chain) (all : count ≡ length ls) (laid : take (length ls) chains ≡ map empty_chain ls) where
-    pub new_means : tables_of cells chains count ≡ new_tables ls
-    new_means = rw (all, laid) (empty_tables ls)
+  module _ (ls : List ℕ) (chains : List Chain) (laid : chains ≡ map empty_chain ls) where
+    pub new_means : tables_of cells chains ≡ new_tables ls
+    new_means = rw laid (empty_tables ls)
 
-    pub new_laid : n ≡ sum ls → n ≤ 2048 → n ≤ length cells → InOrder cells n → Laid cells (record { head = 0; count = n }) (take count chains)
-    new_laid s small fits o = rw (all, laid) (record {
+    pub new_few : length chains ≡ length ls
+    new_few = ap length laid ∙ length-map ls empty_chain
+
+    pub new_laid : (n : ℕ) → n ≡ sum ls → n ≤ 2048 → n ≤ length cells → InOrder cells n → Laid cells (record { head = 0; count = n }) chains
+    new_laid n s small fits o = rw laid (record {
       each = empty_lies ls;
       once = λ q. omega (arith, in_room cells n o fits q, empty_total (λ c. times q (used cells c)) ls (λ l. refl));
       full = omega (arith, empty_total (λ c. c.count) ls (λ l. refl), limits_total ls);

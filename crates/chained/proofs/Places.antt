@@ -50,13 +50,6 @@ next_place cells p (suc n) (suc k) h = next_place cells (cell_at cells p).next n
 
 -- the cell of a row, one step after the other
 module _ (cells : List Cell) (p n : ℕ) where
-  pub found_first : 0 < n → Found (places cells p n) 0 (record { before = p; here = p })
-  found_first h = record { here = first n h; before = λ k e. absurd (omega arith) }
-    where
-      first : (m : ℕ) → 0 < m → get_or (places cells p m) 0 0 ≡ p
-      first zero h = absurd (omega arith)
-      first (suc m) h = refl
-
   module _ {k : ℕ} {s : Spot} (h : k < n) (f : Found (places cells p n) k s) where
     pub found_there : AllByRecursion (λ q. q < length cells) (places cells p n) → s.here < length cells
     found_there inside = subst (λ q. q < length cells) f.here (All-get_or (λ q. q < length cells) (places cells p n) k 0 (omega (arith, length_places cells p n)) inside)

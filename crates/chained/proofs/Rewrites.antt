@@ -5,9 +5,8 @@ use Rattle.std.proofs.lemmas.List.{map-append, set_at, get_or-set_same, get_or-s
 use Rattle.stores.specs.declared.rows.Row.{Row}
 use Rattle.stores.specs.Changes.{row}
 use Rattle.chained.specs.declared.links.Cell.{Cell}
-use Rattle.chained.specs.declared.links.Links.{Links}
 use Rattle.chained.specs.declared.links.Spot.{Spot}
-use Rattle.chained.specs.Links.{no_cell, cell_at, used, unused, rows_at, rows_of_chain, times, Ends}
+use Rattle.chained.specs.Links.{Links, no_cell, cell_at, used, unused, rows_at, rows_of_chain, times, Ends}
 use Rattle.chained.specs.Steps.{values_set, Linked, Relinked, Found}
 use Rattle.chained.proofs.Places.{apart}
 use Rattle.chained.proofs.Leads.{places_kept, rows_kept}

@@ -6,14 +6,16 @@ use Rattle.std.proofs.lemmas.List.{get_or-map}
 use Rattle.stores.specs.Tables.{Table}
 use Rattle.chained.specs.declared.links.Cell.{Cell}
 use Rattle.chained.specs.declared.links.Chain.{Chain}
-use Rattle.chained.specs.declared.links.Links.{Links}
 use Rattle.chained.specs.declared.links.Spot.{Spot}
-use Rattle.chained.specs.Links.{no_cell, cell_at, used, unused, rows_of_chain, table_in, times, room, Ends}
+use Rattle.chained.specs.Links.{Links, no_cell, cell_at, used, unused, rows_of_chain, table_in, times, room, Ends}
 use Rattle.chained.specs.Steps.{held, Inside, Linked, Relinked, Rewritten, Found}
 use Rattle.chained.proofs.Places.{times_at, room_le, room_there, length_places, sole, cut_at}
 
 pub rows_long : (cells : List Cell) (c : Chain) → length (rows_of_chain cells c) ≡ c.count
 rows_long cells c = length-map (used cells c) _ ∙ length_places cells c.head c.count
+
+pub row_found : (cells : List Cell) (c : Chain) {place : ℕ} {s : Spot} → place < c.count → Found (used cells c) place s → get_or (rows_of_chain cells c) place no_cell.row ≡ (cell_at cells s.here).row
+row_found cells c {place} there found = get_or-map (λ p. (cell_at cells p).row) (used cells c) place 0 no_cell.row (omega (arith, length_places cells c.head c.count)) ∙ ap (λ p. (cell_at cells p).row) found.here
 
 pub room_same : (before after : List Cell) (q : ℕ) → length after ≡ length before → room after q ≡ room before q
 room_same before after q e = ap (λ n. cond (ltb q n) 1 0) e
@@ -73,9 +75,6 @@ module _ {cells : List Cell} {l : Links} (ok : Linked cells l) where
 
     pub before_there : (place ≡ 0 → ⊥) → s.before < length cells
     before_there later = in_there s.before (omega (arith, before_in later))
-
-    pub row_found : get_or (rows_of_chain cells l.chain) place no_cell.row ≡ (cell_at cells s.here).row
-    row_found = get_or-map (λ p. (cell_at cells p).row) ps place 0 no_cell.row (omega (arith, long)) ∙ ap (λ p. (cell_at cells p).row) found.here
 
 pub links_twice : {l m n : Links} {before mid after : List Cell} → Relinked l m before mid → Relinked m n mid after → Relinked l n before after
 links_twice a b = record {

@@ -1,17 +1,18 @@
 -- A pass along the links of a chain, front to back. Assumes nothing.
-use Rattle.std.proofs.Common.{◌≡◌, ℕ, suc, ◌+◌, ◌<◌, ◌≤◌, List, [], ◌∷◌, ◌++◌, length, get_or, take, drop, set, ℤ, sym, refl, ap, ◌∙◌, add-zero, add_assoc, add-one, arith}
+use Rattle.std.proofs.Common.{◌≡◌, ℕ, suc, ◌+◌, ◌<◌, ◌≤◌, List, [], ◌∷◌, ◌++◌, length, get_or, take, drop, set, ℤ, sym, ap, ◌∙◌, add-zero, add_assoc, add-one, arith}
 use Rattle.std.proofs.lemmas.List.{append_assoc, append-nil, take_all, drop_all, take_more, drop_more, take_more_set, drop-set-lt, take_at, drop_at, length-take-le, get_or_append_left, get_or-take}
 use Rattle.stores.specs.declared.rows.Row.{Row}
 use Rattle.stores.specs.declared.rows.Fate.{Fate}
 use Rattle.stores.specs.declared.rows.Fate.TheVariants.{Keep, Rewrite, Remove}
 use Rattle.stores.specs.Changes.{row, without, left_by, edited, counts, touched, sweeping}
 use Rattle.chained.specs.declared.links.Cell.{Cell}
-use Rattle.chained.specs.declared.links.Links.{Links}
+use Rattle.chained.specs.declared.links.Chain.{Chain}
+use Rattle.chained.specs.declared.links.Free.{Free}
 use Rattle.chained.specs.declared.links.Spot.{Spot}
-use Rattle.chained.specs.Links.{no_cell, cell_at, used, rows_of_chain, Ends}
+use Rattle.chained.specs.Links.{Links, links, no_cell, cell_at, used, rows_of_chain, Ends}
 use Rattle.chained.specs.Steps.{values_set, Linked, Relinked, Rewritten, Found, Unlinked, Alone}
-use Rattle.chained.proofs.Places.{next_place, found_first, found_next, cut_at, skip_at}
-use Rattle.chained.proofs.Spots.{rows_long, same_links, linked_after, links_twice, long, here_there, row_found}
+use Rattle.chained.proofs.Places.{next_place, found_next, cut_at, skip_at}
+use Rattle.chained.proofs.Spots.{rows_long, linked_after, links_twice, long, here_there, row_found}
 use Rattle.chained.proofs.Rewrites.{same_used, rewritten_links, rewritten_ends, rewritten_rows}
 
 -- the rows before a place are decided, and the others are still to be
@@ -70,18 +71,6 @@ pub record Halfway (fate : Row → Fate) (before : List Cell) (at : Links) (cell
   pub decided : Decided fate (rows_of_chain before at.chain) (rows_of_chain cells l.chain) place count
 
 module _ {fate : Row → Fate} {before : List Cell} {at : Links} (ok : Linked before at) where
-  pub halfway_none : Halfway fate before at before at 0 0 0 (record { before = at.chain.head; here = at.chain.head })
-  halfway_none = record {
-    links = same_links ok;
-    ends = ok.ends;
-    within = ok.within;
-    given = refl;
-    turns = omega arith;
-    few = omega arith;
-    found = found_first before at.chain.head at.chain.count;
-    decided = record { rows = refl; total = omega arith };
-  }
-
   module _ {cells : List Cell} {l : Links} {place count turn : ℕ} {s : Spot} (h : Halfway fate before at cells l place count turn s) where
     linked_still : Linked cells l
     linked_still = linked_after ok l cells h.links h.ends h.within
@@ -111,7 +100,7 @@ module _ {fate : Row → Fate} {before : List Cell} {at : Links} (ok : Linked be
       rows_within = omega (arith, rows_long cells l.chain, there)
 
       row_is : get_or (rows_of_chain cells l.chain) place no_cell.row ≡ here.row
-      row_is = row_found linked_still there spot_found
+      row_is = row_found cells l.chain there spot_found
 
       spot_next : place + 1 < l.chain.count → Found ps (place + 1) (record { before = s.here; here = here.next })
       spot_next j = found_next cells l.chain.head l.chain.count there spot_found j
@@ -166,15 +155,15 @@ module _ {fate : Row → Fate} {before : List Cell} {at : Links} (ok : Linked be
       }
 
       -- the same, by what the turn leaves in each variable
-      module _ (cells' : List Cell) (l' : Links) (s' : Spot) (place' count' : ℕ) where
+      module _ (cells' : List Cell) (c' : Chain) (f' : Free) (s' : Spot) (place' count' : ℕ) where
         abbrev After : Type 0
-        After = Halfway fate before at cells' l' place' count' (turn + 1) (record { before = s'.before; here = here.next })
+        After = Halfway fate before at cells' (links c' f') place' count' (turn + 1) (record { before = s'.before; here = here.next })
 
-        pub turn_keep : Keep ≡ fate here.row → cells' ≡ cells → l' ≡ l → s' ≡ record { before = s.here; here = s.here } → place' ≡ place + 1 → count' ≡ count → After
-        turn_keep e a b c d f = rw (a, b, c, d, f) (keeps e)
+        pub turn_keep : Keep ≡ fate here.row → cells' ≡ cells → c' ≡ l.chain → f' ≡ l.free → s' ≡ record { before = s.here; here = s.here } → place' ≡ place + 1 → count' ≡ count → After
+        turn_keep e a b c d i j = rw (a, b, c, d, i, j) (keeps e)
 
-        pub turn_rewrite : (f g : ℤ) → Rewrite f g ≡ fate here.row → cells' ≡ values_set cells s.here f g → l' ≡ l → s' ≡ record { before = s.here; here = s.here } → place' ≡ place + 1 → count' ≡ count + 1 → After
-        turn_rewrite f g e a b c d i = rw (a, b, c, d, i) (rewrites f g e)
+        pub turn_rewrite : (f g : ℤ) → Rewrite f g ≡ fate here.row → cells' ≡ values_set cells s.here f g → c' ≡ l.chain → f' ≡ l.free → s' ≡ record { before = s.here; here = s.here } → place' ≡ place + 1 → count' ≡ count + 1 → After
+        turn_rewrite f g e a b c d i j = rw (a, b, c, d, i, j) (rewrites f g e)
 
-        pub turn_remove : {m : Links} {after : List Cell} → Remove ≡ fate here.row → Unlinked l m place cells after → cells' ≡ after → l' ≡ m → s' ≡ s → place' ≡ place → count' ≡ count + 1 → After
-        turn_remove e u a b c d i = rw (a, b, c, d, i) (removes e u)
+        pub turn_remove : {m : Links} {after : List Cell} → Remove ≡ fate here.row → Unlinked l m place cells after → cells' ≡ after → c' ≡ m.chain → f' ≡ m.free → s' ≡ s → place' ≡ place → count' ≡ count + 1 → After
+        turn_remove e u a b c d i j = rw (a, b, c, d, i, j) (removes e u)

@@ -8,9 +8,8 @@ use Rattle.stores.specs.Tables.{key_limit}
 use Rattle.stores.specs.Changes.{row, adding, replacing, removing}
 use Rattle.chained.specs.declared.links.Cell.{Cell}
 use Rattle.chained.specs.declared.links.Chain.{Chain}
-use Rattle.chained.specs.declared.links.Links.{Links}
 use Rattle.chained.specs.declared.links.Spot.{Spot}
-use Rattle.chained.specs.Links.{no_cell, cell_at, used, rows_of_chain}
+use Rattle.chained.specs.Links.{Links, no_cell, cell_at, used, rows_of_chain}
 use Rattle.chained.specs.Steps.{values_set, Linked, Rewritten, Found, Unlinked, Appended, Alone}
 use Rattle.chained.proofs.Spots.{rows_long, unchanged, row_found}
 use Rattle.chained.proofs.Rewrites.{rewritten_links, rewritten_ends, rewritten_rows}
@@ -18,9 +17,8 @@ use Rattle.chained.proofs.Rewrites.{rewritten_links, rewritten_ends, rewritten_r
 pub no_row : (cells : List Cell) (c : Chain) (place : ℕ) → c.count ≤ place → slice_get (rows_of_chain cells c) place ≡ None
 no_row cells c place h = slice_get_past (rows_of_chain cells c) place (omega (arith, rows_long cells c))
 
-pub row_there : {cells : List Cell} {l : Links} → Linked cells l → {place : ℕ} {s : Spot} → place < l.chain.count → Found (used cells l.chain) place s →
-    slice_get (rows_of_chain cells l.chain) place ≡ Some (cell_at cells s.here).row
-row_there {cells} {l} ok {place} h f = slice_get-get_or (rows_of_chain cells l.chain) place no_cell.row (omega (arith, rows_long cells l.chain)) ∙ ap Some (row_found ok h f)
+pub row_there : (cells : List Cell) (c : Chain) {place : ℕ} {s : Spot} → place < c.count → Found (used cells c) place s → slice_get (rows_of_chain cells c) place ≡ Some (cell_at cells s.here).row
+row_there cells c {place} there found = slice_get-get_or (rows_of_chain cells c) place no_cell.row (omega (arith, rows_long cells c)) ∙ ap Some (row_found cells c there found)
 
 module _ {before : List Cell} {l : Links} (ok : Linked before l) where
   abbrev count : ℕ
@@ -58,7 +56,7 @@ module _ {before : List Cell} {l : Links} (ok : Linked before l) where
         links = rewritten_links ok there found f s;
         ends = rewritten_ends ok there found f s;
         within = ok.within;
-        takes = rw (row_there ok there found, rewritten_rows ok there found f s);
+        takes = rw (row_there before l.chain there found, rewritten_rows ok there found f s);
       })
 
       pub removed : {m : Links} {after : List Cell} → Unlinked l m place before after → Rewritten (Alone (λ ts n. removing ts n place) true) l m before after
@@ -66,5 +64,5 @@ module _ {before : List Cell} {l : Links} (ok : Linked before l) where
         links = u.links;
         ends = u.ends;
         within = omega (arith, u.less, u.links.limit, ok.within);
-        takes = rw (row_there ok there found, u.links.limit, u.given, u.rows);
+        takes = rw (row_there before l.chain there found, u.links.limit, u.given, u.rows);
       }

@@ -2,9 +2,8 @@
 use Rattle.std.proofs.Common.{◌≡◌, ℕ, suc, ◌+◌, ◌-◌, ◌<◌, ◌⊎◌, List, ◌∷◌, ◌++◌, length, get_or, take, drop, sym, refl, ap, ◌∙◌, subst, ⊎_elim, add-one, arith, length-append, length-drop, length-set, length-take}
 use Rattle.std.proofs.lemmas.List.{length-take-le, get_or_append_left, get_or-take, get_or-set_same, get_or-set_other, map-append, take-map, drop-map}
 use Rattle.chained.specs.declared.links.Cell.{Cell}
-use Rattle.chained.specs.declared.links.Links.{Links}
 use Rattle.chained.specs.declared.links.Spot.{Spot}
-use Rattle.chained.specs.Links.{no_cell, cell_at, places, used, unused, times, Ends}
+use Rattle.chained.specs.Links.{Links, no_cell, cell_at, places, used, unused, times, Ends}
 use Rattle.chained.specs.Steps.{link_set, Linked, LedOn, Found, Unlinked}
 use Rattle.chained.proofs.Places.{times_append, times_at, apart, skip_at}
 use Rattle.chained.proofs.Leads.{Leads, leads_places, places_leads, leads_split, leads_join, places_kept, rows_kept}

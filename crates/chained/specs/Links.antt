@@ -1,11 +1,19 @@
 -- How tables lie in the cells lent: each is a chain of cells, and the free cells are one more. Assumes nothing.
-use Rattle.std.specs.Prelude.{◌≡◌, ℕ, zero, suc, ◌+◌, ◌≤◌, cond, List, [], ◌∷◌, map, length, take, pos, ◌==◌, nat_lt, slice_index, slice_index_or}
+use Rattle.std.specs.Prelude.{◌≡◌, ℕ, zero, suc, ◌+◌, ◌≤◌, cond, List, [], ◌∷◌, map, length, pos, ◌==◌, nat_lt, slice_index, slice_index_or}
 use Rattle.std.specs.List.{AllByRecursion}
 use Rattle.stores.specs.declared.rows.Row.{Row}
 use Rattle.stores.specs.Tables.{Table, SoundTable}
 use Rattle.chained.specs.declared.links.Cell.{Cell}
 use Rattle.chained.specs.declared.links.Chain.{Chain}
 use Rattle.chained.specs.declared.links.Free.{Free}
+
+-- All that a change of one table may change beside the cells: its chain, and the chain of the free cells.
+pub record Links : Type 0 where
+  pub chain : Chain
+  pub free : Free
+
+abbrev pub links : Chain → Free → Links
+links c f = record { chain = c; free = f }
 
 -- What stands for a cell beyond the last.
 abbrev pub no_cell : Cell
@@ -40,9 +48,9 @@ rows_of_chain cells c = rows_at cells (used cells c)
 abbrev pub table_in : List Cell → Chain → Table
 table_in cells c = record { limit = c.limit; given = c.given; rows = rows_of_chain cells c }
 
--- The tables of the chains in use: what a chained store means.
-abbrev pub tables_of : List Cell → List Chain → ℕ → List Table
-tables_of cells chains count = map (table_in cells) (take count chains)
+-- The tables of chains: what a chained store means.
+abbrev pub tables_of : List Cell → List Chain → List Table
+tables_of cells chains = map (table_in cells) chains
 
 -- How often a number stands in a list.
 abbrev pub times : ℕ → List ℕ → ℕ

@@ -1,8 +1,8 @@
 -- Chains that are laid out mean sound tables. Assumes nothing.
-use Rattle.std.specs.Prelude.{ℕ, ◌≤◌, List, [], ◌∷◌, map, take}
+use Rattle.std.specs.Prelude.{ℕ, ◌≤◌, List, [], ◌∷◌, map, length}
 use Rattle.std.proofs.Math.Logic.{∥∥₁_elim, ∥∥₁_prop}
 use Rattle.std.proofs.Math.Bridge.{le_prop}
-use Rattle.std.proofs.Common.{arith, length-take}
+use Rattle.std.proofs.Common.{arith}
 use Rattle.std.specs.Coded.{coded_ℕ}
 use denote.Struct.Props.{≡_prop}
 use Rattle.std.proofs.Props.{props}
@@ -44,8 +44,8 @@ sound_tables : (cells : List Cell) (cs : List Chain) → AllByRecursion (Lies ce
 sound_tables cells [] a = tt
 sound_tables cells (c ∷ cs) a = (a.0.sound, sound_tables cells cs a.1)
 
-pub sound_store : (cells : List Cell) (chains : List Chain) (count : ℕ) (free : Free) → count ≤ 8 → ∥ Laid cells free (take count chains) ∥₁ → Sound (tables_of cells chains count)
-sound_store cells chains count free few l = record {
-  few = simp (length-map, length-take) (omega arith);
-  tables = sound_tables cells (take count chains) (opened cells free (take count chains) l).each;
+pub sound_store : (cells : List Cell) (chains : List Chain) (free : Free) → length chains ≤ 8 → ∥ Laid cells free chains ∥₁ → Sound (tables_of cells chains)
+sound_store cells chains free few l = record {
+  few = simp length-map (omega arith);
+  tables = sound_tables cells chains (opened cells free chains l).each;
 }

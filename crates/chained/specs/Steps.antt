@@ -6,9 +6,8 @@ use Rattle.stores.specs.Tables.{Table}
 use Rattle.stores.specs.Changes.{Changed, changed, row, without}
 use Rattle.chained.specs.declared.links.Cell.{Cell}
 use Rattle.chained.specs.declared.links.Chain.{Chain}
-use Rattle.chained.specs.declared.links.Links.{Links}
 use Rattle.chained.specs.declared.links.Spot.{Spot}
-use Rattle.chained.specs.Links.{cell_at, used, unused, rows_of_chain, table_in, times, room, Ends}
+use Rattle.chained.specs.Links.{Links, cell_at, used, unused, rows_of_chain, table_in, times, room, Ends}
 
 -- The chain of a table with no row and no key given.
 abbrev pub empty_chain : ℕ → Chain

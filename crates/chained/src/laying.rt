@@ -1,36 +1,30 @@
-// The chains of a new store.
-ghost use Rattle.std.specs.Prelude.{◌≡◌, map, length, take, sum};
+// The chains and the links of a new store.
+ghost use Rattle.std.specs.Prelude.{◌≡◌, length, map};
 ghost use Rattle.stores.specs.Plans.{limits_of};
-ghost use Rattle.chained.specs.Steps.{empty_chain};
+ghost use Rattle.chained.specs.Steps.{InOrder, empty_chain};
 
-use crate::links::Chain;
+use crate::links::{Cell, Chain};
+use arrayvec::ArrayVec;
 use stores::Plan;
 
-pub fn empty_chains<const N: usize>(plan: &Plan<N>) -> [Chain; 8]
-    ensures room { length result ≡ 8 }
-    ensures laid { take (length (limits_of plan.now)) result ≡ map empty_chain (limits_of plan.now) }
+pub fn empty_chains<const N: usize>(plan: &Plan<N>) -> ArrayVec<Chain, 8>
+    ensures { result.items ≡ map empty_chain (limits_of plan.now) }
 {
-    let empty = Chain {
-        head: 0,
-        last: 0,
-        count: 0,
-        limit: 0,
-        given: 0,
-    };
-    let mut chains = [empty; 8];
-    for table in 0..plan.count() {
-        let limit = plan.limit(table);
-        chains[table] = Chain { limit, ..empty };
+    let mut chains = ArrayVec::new();
+    for &limit in plan.limits() {
+        chains.push(Chain {
+            limit,
+            ..Chain::default()
+        });
     }
     chains
 }
 
-pub fn sum_of_limits<const N: usize>(plan: &Plan<N>) -> usize
-    ensures { result ≡ sum (limits_of plan.now) }
+// Each cell leads on to the one behind it.
+pub fn link_in_order(cells: &mut [Cell])
+    ensures { InOrder cells.new (length cells.old) }
 {
-    let mut sum = 0;
-    for table in 0..plan.count() {
-        sum += plan.limit(table);
+    for (here, cell) in cells.iter_mut().enumerate() {
+        cell.next = here + 1;
     }
-    sum
 }

@@ -1,4 +1,6 @@
 // Cells that are linked by their numbers, and the chains that they form.
+ghost use Rattle.std.specs.Prelude.{◌≡◌};
+
 use stores::Row;
 
 // A row, and the number of the cell that comes after it.
@@ -9,7 +11,7 @@ pub struct Cell {
 }
 
 // The chain of a table: its first and last cell, how many rows it has and may have, and how many keys were given in it.
-#[derive(Clone, Copy)]
+#[derive(Clone, Copy, Default)]
 pub struct Chain {
     pub head: usize,
     pub last: usize,
@@ -25,16 +27,21 @@ pub struct Free {
     pub count: usize,
 }
 
-// All that a change of one table may change beside the cells.
-#[derive(Clone, Copy)]
-pub struct Links {
-    pub chain: Chain,
-    pub free: Free,
-}
-
 // The cell of a row, and of the row before it if there is one.
 #[derive(Clone, Copy)]
 pub struct Spot {
     pub before: usize,
     pub here: usize,
+}
+
+impl Spot {
+    // The first row of a chain, which has none before it.
+    pub fn first(head: usize) -> Spot
+        ensures { result ≡ record { before = head; here = head } }
+    {
+        Spot {
+            before: head,
+            here: head,
+        }
+    }
 }

@@ -1,21 +1,25 @@
-use Rattle.std.proofs.Common.{refl, ◌∙◌, length-set, to_z-of_z}
+use Rattle.std.proofs.Common.{◌≡◌, Some, refl, arith, length-set, to_z-of_z}
+use Rattle.std.specs.List.{slice_get}
 use Rattle.stores.proofs.Limits.{add_limits}
-use Rattle.stores.proofs.Local.{none_adding, adding_local}
-use Rattle.chained.proofs.Meaning.{no_table, linked_there, laid_anew, change_after}
+use Rattle.stores.proofs.Local.{adding_local}
+use Rattle.chained.specs.declared.links.Chain.{Chain}
+use Rattle.chained.proofs.Meaning.{chain_lent, linked_there, laid_anew, change_after}
 use Rattle.chained.proofs.chained.ChainedStore.add.Goals as goal
+use Rattle.chained.proofs.chained.ChainedStore.add.Goals.{In-Some}
 
-pub returns-then-table-self : goal.returns-then-table-self
-returns-then-table-self c = record { change = none_adding _ c.args.table (no_table c.args.self.now c.args.table c.if-table-self.true) c.args.first c.args.second; limits = refl }
+there : (c : In-Some) → slice_get c.args.self.now.chains.items c.args.table ≡ Some c.in-Some.chain.now
+there c = chain_lent c.args.self.now c.args.table (c.in-Some.ensures.variant.0 refl) c.in-Some.ensures.value
 
-pub add-answer-requires : goal.add-answer-requires
-add-answer-requires c = linked_there c.args.self.now c.args.table c.if-table-self.false
+pub add-requires : goal.add-requires
+add-requires c = linked_there c.args.self.now c.args.table (there (goal.at.add-requires c).In-Some)
 
-pub invariant_of-self : goal.invariant_of-self
-invariant_of-self c =
-    let l = laid_anew c.args.self.now c.args.table c.if-table-self.false _ (adding_local c.args.first c.args.second) _ _ _ (simp (to_z-of_z c.ranges.first, to_z-of_z c.ranges.second) at c.add-answer.ensures) in
-    record { room = length-set _ _ _ ∙ c.args.self.now.room; few = c.args.self.now.few; laid = ∣ l ∣₁ }
+pub invariant_of-self-2 : goal.invariant_of-self-2
+invariant_of-self-2 c =
+    let p = c.args.self.now in
+    let laid = laid_anew p c.args.table (there (goal.at.invariant_of-self-2 c).In-Some) _ (adding_local c.args.first c.args.second) _ _ _ (simp (to_z-of_z c.ranges.first, to_z-of_z c.ranges.second) at c.add.ensures) in
+    record { few = omega (arith, p.few, length-set {A = Chain}); laid = ∣ laid ∣₁ }
 
 pub returns : goal.returns
 returns c =
-    let e = change_after c.args.self.now c.args.table c.if-table-self.false _ (adding_local c.args.first c.args.second) _ _ _ (simp (to_z-of_z c.ranges.first, to_z-of_z c.ranges.second) at c.add-answer.ensures) in
-    record { change = e; limits = add_limits _ c.args.table _ _ c.args.first c.args.second e }
+    let change = change_after c.args.self.now c.args.table (there (goal.at.returns c).In-Some) _ (adding_local c.args.first c.args.second) _ _ _ (simp (to_z-of_z c.ranges.first, to_z-of_z c.ranges.second) at c.add.ensures) in
+    record { change = change; limits = add_limits _ c.args.table _ _ c.args.first c.args.second change }

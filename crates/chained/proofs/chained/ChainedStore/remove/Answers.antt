@@ -1,21 +1,25 @@
-use Rattle.std.proofs.Common.{refl, ◌∙◌, length-set}
+use Rattle.std.proofs.Common.{◌≡◌, Some, refl, arith, length-set}
+use Rattle.std.specs.List.{slice_get}
 use Rattle.stores.proofs.Limits.{remove_limits}
-use Rattle.stores.proofs.Local.{none_removing, removing_local}
-use Rattle.chained.proofs.Meaning.{no_table, linked_there, laid_anew, change_after}
+use Rattle.stores.proofs.Local.{removing_local}
+use Rattle.chained.specs.declared.links.Chain.{Chain}
+use Rattle.chained.proofs.Meaning.{chain_lent, linked_there, laid_anew, change_after}
 use Rattle.chained.proofs.chained.ChainedStore.remove.Goals as goal
+use Rattle.chained.proofs.chained.ChainedStore.remove.Goals.{In-Some}
 
-pub returns-then-table-self : goal.returns-then-table-self
-returns-then-table-self c = record { change = none_removing _ c.args.table (no_table c.args.self.now c.args.table c.if-table-self.true) c.args.place; limits = refl }
+there : (c : In-Some) → slice_get c.args.self.now.chains.items c.args.table ≡ Some c.in-Some.chain.now
+there c = chain_lent c.args.self.now c.args.table (c.in-Some.ensures.variant.0 refl) c.in-Some.ensures.value
 
-pub remove-answer-requires : goal.remove-answer-requires
-remove-answer-requires c = linked_there c.args.self.now c.args.table c.if-table-self.false
+pub remove-requires : goal.remove-requires
+remove-requires c = linked_there c.args.self.now c.args.table (there (goal.at.remove-requires c).In-Some)
 
-pub invariant_of-self : goal.invariant_of-self
-invariant_of-self c =
-    let l = laid_anew c.args.self.now c.args.table c.if-table-self.false _ (removing_local c.args.place) _ _ _ c.remove-answer.ensures in
-    record { room = length-set _ _ _ ∙ c.args.self.now.room; few = c.args.self.now.few; laid = ∣ l ∣₁ }
+pub invariant_of-self-2 : goal.invariant_of-self-2
+invariant_of-self-2 c =
+    let p = c.args.self.now in
+    let laid = laid_anew p c.args.table (there (goal.at.invariant_of-self-2 c).In-Some) _ (removing_local c.args.place) _ _ _ c.remove.ensures in
+    record { few = omega (arith, p.few, length-set {A = Chain}); laid = ∣ laid ∣₁ }
 
 pub returns : goal.returns
 returns c =
-    let e = change_after c.args.self.now c.args.table c.if-table-self.false _ (removing_local c.args.place) _ _ _ c.remove-answer.ensures in
-    record { change = e; limits = remove_limits _ c.args.table _ _ c.args.place e }
+    let change = change_after c.args.self.now c.args.table (there (goal.at.returns c).In-Some) _ (removing_local c.args.place) _ _ _ c.remove.ensures in
+    record { change = change; limits = remove_limits _ c.args.table _ _ c.args.place change }

@@ -9,14 +9,14 @@ offset_bounds-self-cell c = let h = new_there c.requires.linked c.requires.room 
 pub bounds-self-cell : goal.bounds-self-cell
 bounds-self-cell c = new_there c.requires.linked c.requires.room
 
-pub lead_on-head-requires : goal.lead_on-head-requires
-lead_on-head-requires c = last_there c.requires.linked c.requires.room
+pub lead_on-chain-requires : goal.lead_on-chain-requires
+lead_on-chain-requires c = last_there c.requires.linked c.requires.room
 
 pub offset_bounds-self-cell-2 : goal.offset_bounds-self-cell-2
 offset_bounds-self-cell-2 c = let h = new_there c.requires.linked c.requires.room in omega arith
 
 pub bounds-self-cell-2 : goal.bounds-self-cell-2
-bounds-self-cell-2 c = let h = new_there c.requires.linked c.requires.room in omega (arith, led_long c.lead_on-head.ensures)
+bounds-self-cell-2 c = let h = new_there c.requires.linked c.requires.room in omega (arith, led_long c.lead_on-chain.ensures)
 
 pub returns : goal.returns
-returns c = appended c.requires.linked c.requires.room c.lead_on-head.ensures c.args.row
+returns c = appended c.requires.linked c.requires.room c.lead_on-chain.ensures c.args.row

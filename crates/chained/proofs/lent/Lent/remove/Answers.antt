@@ -2,11 +2,11 @@ use Rattle.chained.proofs.Spots.{inside}
 use Rattle.chained.proofs.Tables.{none_removed, removed}
 use Rattle.chained.proofs.lent.Lent.remove.Goals as goal
 
-pub returns-then-place-at : goal.returns-then-place-at
-returns-then-place-at c = none_removed c.requires c.args.place c.if-place-at.true
+pub find-requires : goal.find-requires
+find-requires c = inside c.requires
 
-pub find-spot-requires : goal.find-spot-requires
-find-spot-requires c = record { inside = inside c.requires; there = c.if-place-at.false }
+pub returns-in_default : goal.returns-in_default
+returns-in_default c = none_removed c.requires c.args.place c.in_default.ensures
 
 pub returns : goal.returns
-returns c = removed c.requires c.args.place c.if-place-at.false c.find-spot.ensures c.unlink.ensures
+returns c = removed c.requires c.args.place c.in-Some.ensures.0 c.in-Some.ensures.1 c.unlink.ensures

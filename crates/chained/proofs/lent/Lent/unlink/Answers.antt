@@ -1,4 +1,4 @@
-use Rattle.std.proofs.Common.{◌≡◌, ◌+◌, ◌⊎◌, inl, inr, arith}
+use Rattle.std.proofs.Common.{inl, inr, refl, arith}
 use Rattle.chained.proofs.Spots.{here_there, before_there}
 use Rattle.chained.proofs.Writes.{led_long}
 use Rattle.chained.proofs.Unlinks.{unlinked_by}
@@ -11,14 +11,15 @@ offset_bounds-self-spot c = let h = here_there c.requires.linked c.requires.ther
 pub bounds-self-spot : goal.bounds-self-spot
 bounds-self-spot c = here_there c.requires.linked c.requires.there c.requires.found
 
-pub lead_on-head-requires : goal.lead_on-head-requires
-lead_on-head-requires c = before_there c.requires.linked c.requires.there c.requires.found
+pub lead_on-chain-requires : goal.lead_on-chain-requires
+lead_on-chain-requires c = before_there c.requires.linked c.requires.there c.requires.found
 
 pub link-requires : goal.link-requires
-link-requires c = let h = here_there c.requires.linked c.requires.there c.requires.found in omega (arith, led_long c.lead_on-head.ensures)
+link-requires c = let h = here_there c.requires.linked c.requires.there c.requires.found in omega (arith, led_long c.lead_on-chain.ensures)
 
 pub returns : goal.returns
 returns c =
-    let lasts : ((c.args.place + 1 ≡ c.args.at.chain.count) × (c.if-place-chain.last ≡ c.args.spot.before)) ⊎ ((c.args.place + 1 ≡ c.args.at.chain.count → ⊥) × (c.if-place-chain.last ≡ c.args.at.chain.last)) =
-    elim c.if-place-chain.branch [ then-place-chain w ↦ inl (w.if-place-chain.true, w.last-is) | else-place-chain w ↦ inr (w.if-place-chain.false, w.last-is) ] in
-    unlinked_by c.requires.linked c.requires.there c.requires.found c.lead_on-head.ensures lasts c.link.ensures
+    elim c.if-place-chain.branch [
+      | then-place-chain w ↦ rw w.chain-is (unlinked_by c.requires.linked c.requires.there c.requires.found c.lead_on-chain.ensures (inl (w.if-place-chain.true, refl)) c.link.ensures)
+      | else-place-chain w ↦ rw w.chain-is (unlinked_by c.requires.linked c.requires.there c.requires.found c.lead_on-chain.ensures (inr (w.if-place-chain.false, refl)) c.link.ensures)
+    ]
