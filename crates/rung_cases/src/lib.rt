@@ -1,0 +1,12 @@
+// Requests with rung labels written as numbers, tables of them with the answers and standings that docs/MODEL.md gives them,
+// worked out by hand, and playing such a table on whatever serves requests.
+#![tactic(auto)]
+
+pub mod cases;
+mod expected;
+mod requests;
+mod setting;
+
+pub use expected::{Case, Expected, Mismatch, Outcome, play, standing_of};
+pub use requests::{Ask, Request};
+pub use setting::{blank_place, place, records};
