@@ -37,7 +37,7 @@ const FIRST_BACKWARDS: Predicate = Predicate {
     ..ALL
 };
 
-const LOW_SECONDS: Predicate = Predicate {
+pub const LOW_SECONDS: Predicate = Predicate {
     second: Some(Range {
         low: -300,
         high: -200,
@@ -55,7 +55,7 @@ const KEY_2_TO_9: Predicate = Predicate {
     ..ALL
 };
 
-pub const OPENING_RAISING_LOWERING: [Case; 27] = [
+pub const OPENING_RAISING_LOWERING: &[Case] = &[
     (Request(3, Open(0, 7)), Refused(1, None), None),
     (Request(0, Open(3, 2)), Refused(5, None), None),
     (Request(0, Open(0, 8)), Refused(15, None), None),
@@ -85,7 +85,7 @@ pub const OPENING_RAISING_LOWERING: [Case; 27] = [
     (Request(0, Raise(0)), Done, Some((5, 5))),
 ];
 
-pub const SEALING_UNSEALING: [Case; 17] = [
+pub const SEALING_UNSEALING: &[Case] = &[
     (Request(3, Seal(9, 0)), Refused(1, None), None),
     (Request(0, Seal(9, 0)), Refused(2, None), None),
     (Request(3, Unseal(0, 9)), Refused(1, None), None),
@@ -117,7 +117,7 @@ pub const SEALING_UNSEALING: [Case; 17] = [
     (Request(1, Seal(9, 7)), Sealed(7, 9), Some((7, 7))),
 ];
 
-pub const SELECTING: [Case; 29] = [
+pub const SELECTING: &[Case] = &[
     (Request(3, Select(0, ALL, 4)), Refused(1, None), None),
     (Request(2, Select(0, ALL, 4)), Refused(2, None), None),
     (Request(0, Open(0, 7)), Done, Some((0, 7))),
@@ -209,7 +209,7 @@ pub const SELECTING: [Case; 29] = [
     (Request(0, Select(1, LOW_SECONDS, 0)), Rows(0), Some((6, 7))),
 ];
 
-pub const INSERTING: [Case; 28] = [
+pub const INSERTING: &[Case] = &[
     (
         Request(3, Insert(0, (0, 0), (0, 0))),
         Refused(1, None),
@@ -308,7 +308,7 @@ pub const INSERTING: [Case; 28] = [
     (Request(1, Insert(4, (0, 0), (2, 3))), Key(3), Some((1, 3))),
 ];
 
-pub const DELETING: [Case; 21] = [
+pub const DELETING: &[Case] = &[
     (Request(3, Delete(0, ALL)), Refused(1, None), None),
     (Request(2, Delete(0, ALL)), Refused(2, None), None),
     (Request(0, Open(3, 7)), Done, Some((3, 7))),
@@ -368,7 +368,7 @@ pub const DELETING: [Case; 21] = [
     (Request(0, Delete(0, LOW_SECONDS)), Changed(1), Some((2, 7))),
 ];
 
-pub const UPDATING: [Case; 38] = [
+pub const UPDATING: &[Case] = &[
     (
         Request(3, Update(0, ALL, (0, 0), (0, 0))),
         Refused(1, None),
@@ -497,7 +497,7 @@ pub const UPDATING: [Case; 38] = [
     ),
 ];
 
-pub const UPDATING_BY_EACH_RULE: [Case; 20] = [
+pub const UPDATING_BY_EACH_RULE: &[Case] = &[
     (Request(1, Open(0, 3)), Done, Some((0, 3))),
     (Request(1, Insert(1, (0, 1), (5, 1))), Key(1), Some((0, 3))),
     (
@@ -572,7 +572,7 @@ pub const UPDATING_BY_EACH_RULE: [Case; 20] = [
     ),
 ];
 
-pub const REOPENING: [Case; 11] = [
+pub const REOPENING: &[Case] = &[
     (Request(0, Open(0, 7)), Done, Some((0, 7))),
     (Request(0, Raise(5)), Done, Some((5, 7))),
     (Request(0, Open(2, 3)), Done, Some((2, 3))),
@@ -586,7 +586,7 @@ pub const REOPENING: [Case; 11] = [
     (Request(0, Raise(3)), Done, Some((3, 3))),
 ];
 
-pub const UPDATED_AND_READ: [Case; 7] = [
+pub const UPDATED_AND_READ: &[Case] = &[
     (Request(0, Open(0, 7)), Done, Some((0, 7))),
     (
         Request(0, Insert(0, (0, 4), (0, -250))),
@@ -608,7 +608,7 @@ pub const UPDATED_AND_READ: [Case; 7] = [
     (Request(0, Select(0, ALL, 4)), Rows(3), Some((2, 7))),
 ];
 
-pub const KEYS_SPENT: [Case; 5] = [
+pub const KEYS_SPENT: &[Case] = &[
     (Request(0, Open(0, 7)), Done, Some((0, 7))),
     (
         Request(0, Insert(0, (0, 0), (0, 0))),
@@ -629,7 +629,7 @@ pub const KEYS_SPENT: [Case; 5] = [
 ];
 
 // On records of the first table alone.
-pub const WITH_ONE_RECORD: [Case; 4] = [
+pub const WITH_ONE_RECORD: &[Case] = &[
     (Request(0, Open(0, 7)), Done, Some((0, 7))),
     (
         Request(0, Select(1, ALL, 1)),

@@ -2,7 +2,7 @@
 use crate::requests::Request;
 use labels::{Rung, UnlawfulLabel};
 use monitor::{Answer, ShortBuffer};
-use sessions::{Refusal, Session};
+use sessions::{Refusal, Session, Standing};
 use thiserror::Error;
 
 // What is expected of a request. A refusal has its number and, where one is returned, the label as left.
@@ -23,7 +23,10 @@ impl From<Answer<Rung>> for Expected {
     fn from(answer: Answer<Rung>) -> Expected {
         match answer {
             Answer::Done => Expected::Done,
-            Answer::Sealed(sealed) => Expected::Sealed(sealed.label().number(), sealed.host_value()),
+            Answer::Sealed(sealed) => Expected::Sealed(
+                sealed.label().number(),
+                sealed.host_value(),
+            ),
             Answer::Value(value) => Expected::Value(value),
             Answer::Filled(count) => Expected::Rows(count),
             Answer::Key(key) => Expected::Key(key),
@@ -67,9 +70,13 @@ pub type Outcome = (Expected, Option<(u8, u8)>);
 
 pub type Case = (Request, Expected, Option<(u8, u8)>);
 
+// The label and the clearance of an open session.
+pub fn numbers(standing: Standing<Rung>) -> (u8, u8) {
+    (standing.label().number(), standing.clearance().number())
+}
+
 pub fn standing_of(sessions: &[Session<Rung>], session: usize) -> Option<(u8, u8)> {
-    let at = sessions.get(session)?.standing()?;
-    Some((at.label().number(), at.clearance().number()))
+    sessions.get(session)?.standing().map(numbers)
 }
 
 // The first case, counted from 0, that comes out otherwise than expected.

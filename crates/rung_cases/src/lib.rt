@@ -7,6 +7,6 @@ mod expected;
 mod requests;
 mod setting;
 
-pub use expected::{Case, Expected, Mismatch, Outcome, play, standing_of};
-pub use requests::{Ask, Request};
+pub use expected::{Case, Expected, Mismatch, Outcome, numbers, play, standing_of};
+pub use requests::{Ask, Request, sealed};
 pub use setting::{blank_place, place, records};

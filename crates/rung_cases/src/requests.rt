@@ -91,10 +91,16 @@ impl fmt::Display for Request {
             Ask::Unseal(label, value) => write!(f, "session {session} unseals {label}:{value}"),
             Ask::Select(table, predicate, room) => {
                 let ranges = Ranges(predicate);
-                write!(f, "session {session} selects in {table}{ranges}, places {room}")
+                write!(
+                    f,
+                    "session {session} selects in {table}{ranges}, places {room}"
+                )
             }
             Ask::Insert(table, (a, first), (b, second)) => {
-                write!(f, "session {session} inserts in {table}: {a}:{first}, {b}:{second}")
+                write!(
+                    f,
+                    "session {session} inserts in {table}: {a}:{first}, {b}:{second}"
+                )
             }
             Ask::Delete(table, predicate) => {
                 let ranges = Ranges(predicate);
@@ -102,7 +108,10 @@ impl fmt::Display for Request {
             }
             Ask::Update(table, predicate, (a, first), (b, second)) => {
                 let ranges = Ranges(predicate);
-                write!(f, "session {session} updates in {table}{ranges}: {a}:{first}, {b}:{second}")
+                write!(
+                    f,
+                    "session {session} updates in {table}{ranges}: {a}:{first}, {b}:{second}"
+                )
             }
         }
     }

@@ -28,7 +28,11 @@ pub fn records() -> Result<[TableRecord<Rung>; 6], UnlawfulLabel> {
 }
 
 // A row as it is answered, with the label and the value of each field.
-pub fn place(key: u32, first: (u64, i32), second: (u64, i32)) -> Result<Place<Rung>, UnlawfulLabel> {
+pub fn place(
+    key: u32,
+    first: (u64, i32),
+    second: (u64, i32),
+) -> Result<Place<Rung>, UnlawfulLabel> {
     Ok(Place {
         key,
         first: sealed(first.0, first.1)?,
