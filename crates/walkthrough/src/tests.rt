@@ -28,16 +28,26 @@ fn outcome(host: &mut Host, request: Request) -> Outcome {
     (answer, standing_of(host.sessions, request.0))
 }
 
-fn plays_on(store: Packed, cases: &[Case]) -> Result<(), Fail> {
+// On a new store, once so many keys of its first table are given and taken back.
+fn plays_on<const N: usize>(
+    plan: Plan<N>,
+    rows: &mut [Row; N],
+    spent: usize,
+    cases: &[Case],
+) -> Result<(), Fail> {
     let records = records()?;
     let mut sessions = [Session::closed(), Session::closed(), Session::closed()];
     let mut places = [blank_place()?; 4];
     let mut host = Host {
         sessions: &mut sessions,
         records: &records,
-        store,
+        store: Packed::new(plan, rows),
         places: &mut places,
     };
+    for _ in 0..spent {
+        let _ = host.store.add(0, 0, 0);
+        let _ = host.store.remove(0, 0);
+    }
     play(cases, |request| outcome(&mut host, request))?;
     Ok(())
 }
@@ -48,7 +58,7 @@ fn plays(cases: &[Case]) -> Result<(), Fail> {
         first: -7,
         second: 77,
     }; 7];
-    plays_on(Packed::new(Plan::of(&[2, 1, 1, 0, 3])?, &mut rows), cases)
+    plays_on(Plan::of(&[2, 1, 1, 0, 3])?, &mut rows, 0, cases)
 }
 
 #[test]
@@ -78,13 +88,12 @@ fn deleting() -> Result<(), Fail> {
 
 #[test]
 fn keys_spent() -> Result<(), Fail> {
-    let mut rows = [Row::default(); 1];
-    let mut store = Packed::new(Plan::of(&[1])?, &mut rows);
-    for _ in 0..999_999 {
-        let _ = store.add(0, 0, 0);
-        let _ = store.remove(0, 0);
-    }
-    plays_on(store, KEYS_SPENT)
+    plays_on(
+        Plan::of(&[1])?,
+        &mut [Row::default(); 1],
+        999_999,
+        KEYS_SPENT,
+    )
 }
 
 #[test]
