@@ -3,13 +3,8 @@ use crate::expected::Case;
 use crate::expected::Expected::{Changed, Done, FewPlaces, Key, Refused, Rows, Sealed, Value};
 use crate::requests::Ask::{Delete, Insert, Lower, Open, Raise, Seal, Select, Unseal, Update};
 use crate::requests::Request;
+use rung_requests::predicates::{ALL, LOW_SECONDS};
 use tables::{Predicate, Range};
-
-pub const ALL: Predicate = Predicate {
-    key: None,
-    first: None,
-    second: None,
-};
 
 const KEY_2: Predicate = Predicate {
     key: Some(Range { low: 2, high: 2 }),
@@ -34,14 +29,6 @@ const FIRST_4_OF_KEY_2: Predicate = Predicate {
 
 const FIRST_BACKWARDS: Predicate = Predicate {
     first: Some(Range { low: 5, high: 1 }),
-    ..ALL
-};
-
-pub const LOW_SECONDS: Predicate = Predicate {
-    second: Some(Range {
-        low: -300,
-        high: -200,
-    }),
     ..ALL
 };
 

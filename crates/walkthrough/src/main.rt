@@ -7,21 +7,16 @@ mod show;
 #[cfg(test)]
 mod tests;
 
-use labels::{Label, Rung, UnlawfulLabel};
 use monitor::Answer;
 use packed::Packed;
 use play::Host;
-use rung_cases::cases::{ALL, LOW_SECONDS};
 use rung_cases::{Ask, Request, standing_of};
-use sessions::{Sealed, Session};
+use rung_requests::predicates::{ALL, KEY_1, LOW_SECONDS};
+use rung_requests::{example, sealed};
+use sessions::Session;
 use show::{Answered, Reply, Standing};
 use stores::{Plan, Row};
-use tables::{Place, Predicate, Range, SecondRule, TableRecord};
-
-const KEY_1: Predicate = Predicate {
-    key: Some(Range { low: 1, high: 1 }),
-    ..ALL
-};
+use tables::{Place, Predicate, Range};
 
 const MIDDLE_SECONDS: Predicate = Predicate {
     second: Some(Range {
@@ -68,20 +63,6 @@ const ON_TABLES: &[Request] = &[
     Request(0, Ask::Insert(2, (0, 1), (0, 1))),
 ];
 
-fn records() -> Result<[TableRecord<Rung>; 2], UnlawfulLabel> {
-    let wells = TableRecord {
-        table: Rung::new(2)?,
-        first: Rung::new(1)?,
-        second: SecondRule::Own,
-    };
-    let notes = TableRecord {
-        table: Rung::new(0)?,
-        first: Rung::new(0)?,
-        second: SecondRule::Fixed(Rung::new(5)?),
-    };
-    Ok([wells, notes])
-}
-
 fn play_all(rt: &HostRuntime, host: &mut Host, requests: &[Request]) -> anyhow::Result<()> {
     println!(rt; "label  clearance  request -> answer")?;
     for request in requests {
@@ -99,10 +80,10 @@ fn play_all(rt: &HostRuntime, host: &mut Host, requests: &[Request]) -> anyhow::
 }
 
 fn run(rt: &HostRuntime) -> anyhow::Result<()> {
-    let records = records()?;
+    let records = example::records();
     let mut sessions = [Session::closed(), Session::closed()];
     let mut rows = [Row::default(); 3];
-    let nothing = Sealed::new(Rung::lowest(), 0);
+    let nothing = sealed(0, 0);
     let mut places = [Place {
         key: 0,
         first: nothing,

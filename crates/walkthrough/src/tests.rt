@@ -3,12 +3,13 @@ use super::play::{Fault, Host};
 use labels::Rung;
 use packed::Packed;
 use rung_cases::cases::{
-    ALL, DELETING, INSERTING, KEYS_SPENT, OPENING_RAISING_LOWERING, SEALING_UNSEALING, SELECTING,
+    DELETING, INSERTING, KEYS_SPENT, OPENING_RAISING_LOWERING, SEALING_UNSEALING, SELECTING,
     WITH_ONE_RECORD,
 };
 use rung_cases::{
     Case, Expected, Outcome, Request, blank_place, place, play, records, standing_of,
 };
+use rung_requests::predicates::ALL;
 use sessions::Session;
 use std::test::Fail;
 use stores::{Plan, Row, Store};

@@ -3,13 +3,14 @@ use labels::Rung;
 use monitor::{Answer, Event, ShortBuffer, serve, serve_all};
 use packed::Packed;
 use rung_cases::cases::{
-    ALL, DELETING, INSERTING, KEYS_SPENT, OPENING_RAISING_LOWERING, REOPENING, SEALING_UNSEALING,
+    DELETING, INSERTING, KEYS_SPENT, OPENING_RAISING_LOWERING, REOPENING, SEALING_UNSEALING,
     SELECTING, UPDATED_AND_READ, UPDATING, UPDATING_BY_EACH_RULE, WITH_ONE_RECORD,
 };
 use rung_cases::Ask::{Insert, Open, Select};
 use rung_cases::{
     Case, Mismatch, Request, blank_place, numbers, place, play, records, standing_of,
 };
+use rung_requests::predicates::ALL;
 use sessions::Session;
 use std::process::Abort;
 use std::test::Fail;
