@@ -6,6 +6,8 @@ pub mod cases;
 mod expected;
 mod requests;
 mod setting;
+#[cfg(test)]
+mod tests;
 
 pub use expected::{Case, Expected, Mismatch, Outcome, numbers, play, standing_of};
 pub use requests::{Ask, Request, sealed};
