@@ -20,6 +20,7 @@ use std::alloc::Global;
 use stores::{Plan, Row, Store};
 use tables::{Place, SecondRule, TableRecord};
 
+// A row and a cell as they are lent, holding what a new store forgets.
 const ROW: Row = Row {
     key: 7,
     first: -7,
@@ -92,7 +93,7 @@ impl List<'_> {
             .requests
             .iter()
             .map(|request| request.ask.room())
-            .fold(0usize, |room, asked| room.saturating_add(asked));
+            .fold(0, usize::saturating_add);
         let mut places = vec![in alloc; no_row; room]?;
         monitor::serve_all(
             &mut sessions,
