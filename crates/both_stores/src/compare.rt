@@ -43,7 +43,7 @@ pub struct Difference {
     pub spot: Spot,
 }
 
-fn first_difference<T: PartialEq>(left: &[T], right: &[T]) -> Option<usize> {
+fn differing_index<T: PartialEq>(left: &[T], right: &[T]) -> Option<usize> {
     left.iter()
         .zip(right)
         .position(|(left, right)| left != right)
@@ -76,18 +76,18 @@ fn request_at(index: usize) -> Spot {
 }
 
 // The tables are compared once all else is the same.
-pub fn first_spot<A: Store, B: Store>(
+pub fn first_difference<A: Store, B: Store>(
     requests: &[Request<Rung>],
     left: &Run<A>,
     right: &Run<B>,
 ) -> Option<Spot> {
-    if let Some(index) = first_difference(&left.events, &right.events) {
+    if let Some(index) = differing_index(&left.events, &right.events) {
         return Some(request_at(index));
     }
-    if let Some(place) = first_difference(&left.places, &right.places) {
+    if let Some(place) = differing_index(&left.places, &right.places) {
         return Some(lent_to(requests, place).map_or(Spot::Place(place), request_at));
     }
-    first_difference(&left.sessions, &right.sessions)
+    differing_index(&left.sessions, &right.sessions)
         .map(Spot::Session)
         .or_else(|| differing_table(&left.store, &right.store).map(Spot::Table))
 }

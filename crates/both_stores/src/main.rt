@@ -7,7 +7,7 @@ mod counts;
 mod draw;
 
 use chained::{Cell, Chained};
-use compare::{Difference, Run, first_spot};
+use compare::{Difference, Run, first_difference};
 use counts::Counts;
 use draw::Draw;
 use labels::Rung;
@@ -119,7 +119,7 @@ impl List<'_> {
         let mut cells = [CELL; 12];
         let chained = Chained::new(Plan::of(self.limits)?, &mut cells);
         let right = self.serve(alloc, chained)?;
-        if let Some(spot) = first_spot(self.requests, &left, &right) {
+        if let Some(spot) = first_difference(self.requests, &left, &right) {
             let list = self.number;
             return Err(Difference { list, spot }.into());
         }

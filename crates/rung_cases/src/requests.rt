@@ -24,6 +24,7 @@ pub enum Ask {
 #[derive(Clone, Copy, PartialEq, Eq, Debug)]
 pub struct Request(pub usize, pub Ask);
 
+// A value sealed under the label of a number, where the number makes one.
 pub fn sealed(label: u64, value: i32) -> Result<Sealed<Rung>, UnlawfulLabel> {
     Ok(Sealed::new(Rung::new(label)?, value))
 }

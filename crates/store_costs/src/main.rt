@@ -12,6 +12,8 @@ use std::env;
 use stores::{Edit, Fate, Plan, Row, Store, Visit};
 use thiserror::Error;
 
+const LIMIT: usize = 2048;
+
 const USAGE: &str = "usage: store_costs packed|chained lay|add|walk|sweep ROWS MASK";
 
 // A word that names no store or no job.
@@ -131,17 +133,17 @@ fn run(rt: &HostRuntime) -> anyhow::Result<()> {
     let job = Job::try_from(job.as_str()).context(USAGE)?;
     let rows = rows.parse().context(format_args!("ROWS {rows:?}"))?;
     let mask = mask.parse().context(format_args!("MASK {mask:?}"))?;
-    let plan = Plan::of(&[2048])?;
+    let plan = Plan::of(&[LIMIT])?;
     let answer = match kind {
         Kind::Packed => {
-            let mut held = [Row::default(); 2048];
+            let mut held = [Row::default(); LIMIT];
             work(&mut Packed::new(plan, &mut held), job, rows, mask)
         }
         Kind::Chained => {
             let mut cells = [Cell {
                 row: Row::default(),
                 next: 0,
-            }; 2048];
+            }; LIMIT];
             work(&mut Chained::new(plan, &mut cells), job, rows, mask)
         }
     };

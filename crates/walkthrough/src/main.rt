@@ -10,13 +10,13 @@ mod tests;
 use monitor::Answer;
 use packed::Packed;
 use play::Host;
-use rung_cases::{Ask, Request, standing_of};
+use rung_cases::{Ask, Request, blank_place, standing_of};
+use rung_requests::example;
 use rung_requests::predicates::{ALL, KEY_1, LOW_SECONDS};
-use rung_requests::{example, sealed};
 use sessions::Session;
 use show::{Answered, Reply, Standing};
 use stores::{Plan, Row};
-use tables::{Place, Predicate, Range};
+use tables::{Predicate, Range};
 
 const MIDDLE_SECONDS: Predicate = Predicate {
     second: Some(Range {
@@ -83,12 +83,7 @@ fn run(rt: &HostRuntime) -> anyhow::Result<()> {
     let records = example::records();
     let mut sessions = [Session::closed(), Session::closed()];
     let mut rows = [Row::default(); 3];
-    let nothing = sealed(0, 0);
-    let mut places = [Place {
-        key: 0,
-        first: nothing,
-        second: nothing,
-    }; 4];
+    let mut places = [blank_place(); 4];
     let mut host = Host {
         sessions: &mut sessions,
         records: &records,

@@ -17,7 +17,7 @@ impl fmt::Display for Sealed {
     }
 }
 
-// What a request is answered that asks for this.
+// What a request that asks for this is answered.
 #[derive(Clone, Copy)]
 pub struct Reply(pub Ask, pub Result<Answer<Rung>, Fault>);
 

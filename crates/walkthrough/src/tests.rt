@@ -10,6 +10,7 @@ use rung_cases::{
     Case, Expected, Outcome, Request, blank_place, place, play, records, standing_of,
 };
 use rung_requests::predicates::ALL;
+use rung_requests::sealed;
 use sessions::Session;
 use std::test::Fail;
 use stores::{Plan, Row, Store};
@@ -36,9 +37,9 @@ fn plays_on<const N: usize>(
     spent: usize,
     cases: &[Case],
 ) -> Result<(), Fail> {
-    let records = records()?;
+    let records = records();
     let mut sessions = [Session::closed(), Session::closed(), Session::closed()];
-    let mut places = [blank_place()?; 4];
+    let mut places = [blank_place(); 4];
     let mut host = Host {
         sessions: &mut sessions,
         records: &records,
@@ -99,25 +100,28 @@ fn keys_spent() -> Result<(), Fail> {
 
 #[test]
 fn later_places_are_untouched(rt: HostRuntime) -> Result<(), Fail> {
-    let records = records()?;
+    let records = records();
     let mut rows = [Row::default(); 2];
     let mut store = Packed::new(Plan::of(&[2])?, &mut rows);
     let _ = store.add(0, 4, -250);
     let mut sessions = [Session::closed()];
     sessions::open(&mut sessions, 0, Rung::new(0)?, Rung::new(7)?)?;
-    let mut places = [blank_place()?; 2];
+    let mut places = [blank_place(); 2];
     let answer = tables::select(&mut sessions, &records, &store, 0, 0, ALL, &mut places);
     assert_eq!(rt; answer, Ok(1));
-    assert_eq!(rt; places, [place(1, (1, 4), (4, -250))?, blank_place()?]);
+    assert_eq!(rt;
+        places,
+        [place(1, sealed(1, 4), sealed(4, -250)), blank_place()]
+    );
     Ok(())
 }
 
 #[test]
 fn a_table_without_a_record_is_missing(rt: HostRuntime) -> Result<(), Fail> {
-    let records = records()?;
+    let records = records();
     let mut rows = [Row::default(); 2];
     let mut sessions = [Session::closed()];
-    let mut places = [blank_place()?; 1];
+    let mut places = [blank_place(); 1];
     let mut host = Host {
         sessions: &mut sessions,
         records: &records[0..1],
@@ -125,6 +129,6 @@ fn a_table_without_a_record_is_missing(rt: HostRuntime) -> Result<(), Fail> {
         places: &mut places,
     };
     play(WITH_ONE_RECORD, |request| outcome(&mut host, request))?;
-    assert_eq!(rt; places, [blank_place()?]);
+    assert_eq!(rt; places, [blank_place()]);
     Ok(())
 }

@@ -2,15 +2,16 @@
 use labels::Rung;
 use monitor::{Answer, Event, ShortBuffer, serve, serve_all};
 use packed::Packed;
+use rung_cases::Ask::{Insert, Open, Select};
 use rung_cases::cases::{
     DELETING, INSERTING, KEYS_SPENT, OPENING_RAISING_LOWERING, REOPENING, SEALING_UNSEALING,
     SELECTING, UPDATED_AND_READ, UPDATING, UPDATING_BY_EACH_RULE, WITH_ONE_RECORD,
 };
-use rung_cases::Ask::{Insert, Open, Select};
 use rung_cases::{
     Case, Mismatch, Request, blank_place, numbers, place, play, records, standing_of,
 };
 use rung_requests::predicates::ALL;
+use rung_requests::sealed;
 use sessions::Session;
 use std::process::Abort;
 use std::test::Fail;
@@ -25,16 +26,17 @@ fn plays_each(
     cases: &[Case],
 ) -> Result<(), Mismatch> {
     play(cases, |request| {
-        let answer = monitor::Request::try_from(request)
-            .map(|request| serve(sessions, records, store, request, places));
+        let answer = monitor::Request::try_from(request).map(|request| serve(
+            sessions, records, store, request, places,
+        ));
         (answer.into(), standing_of(sessions, request.0))
     })
 }
 
 fn plays_on(store: &mut Packed, cases: &[Case]) -> Result<(), Fail> {
     let mut sessions = [Session::closed(), Session::closed(), Session::closed()];
-    let mut places = [blank_place()?; 4];
-    plays_each(&mut sessions, &records()?, store, &mut places, cases)?;
+    let mut places = [blank_place(); 4];
+    plays_each(&mut sessions, &records(), store, &mut places, cases)?;
     Ok(())
 }
 
@@ -96,10 +98,10 @@ fn reopening() -> Result<(), Fail> {
 fn updated_rows_keep_their_keys(rt: HostRuntime) -> Result<(), Fail> {
     let mut rows = [Row::default(); 3];
     let mut store = Packed::new(Plan::of(&[3])?, &mut rows);
-    let mut places = [blank_place()?; 4];
+    let mut places = [blank_place(); 4];
     plays_each(
         &mut [Session::closed()],
-        &records()?,
+        &records(),
         &mut store,
         &mut places,
         UPDATED_AND_READ,
@@ -107,10 +109,10 @@ fn updated_rows_keep_their_keys(rt: HostRuntime) -> Result<(), Fail> {
     assert_eq!(rt;
         places,
         [
-            place(1, (1, 4), (4, -250))?,
-            place(2, (1, 5), (5, -77))?,
-            place(3, (1, 5), (5, -77))?,
-            blank_place()?,
+            place(1, sealed(1, 4), sealed(4, -250)),
+            place(2, sealed(1, 5), sealed(5, -77)),
+            place(3, sealed(1, 5), sealed(5, -77)),
+            blank_place(),
         ]
     );
     Ok(())
@@ -134,10 +136,13 @@ fn later_places_are_untouched(rt: HostRuntime) -> Result<(), Fail> {
     let _ = store.add(0, 4, -250);
     let mut sessions = [Session::closed()];
     sessions::open(&mut sessions, 0, Rung::new(0)?, Rung::new(7)?)?;
-    let mut places = [blank_place()?; 2];
-    let answer = tables::select(&mut sessions, &records()?, &store, 0, 0, ALL, &mut places);
+    let mut places = [blank_place(); 2];
+    let answer = tables::select(&mut sessions, &records(), &store, 0, 0, ALL, &mut places);
     assert_eq!(rt; answer, Ok(1));
-    assert_eq!(rt; places, [place(1, (1, 4), (4, -250))?, blank_place()?]);
+    assert_eq!(rt;
+        places,
+        [place(1, sealed(1, 4), sealed(4, -250)), blank_place()]
+    );
     Ok(())
 }
 
@@ -145,15 +150,15 @@ fn later_places_are_untouched(rt: HostRuntime) -> Result<(), Fail> {
 fn a_table_without_a_record_is_missing(rt: HostRuntime) -> Result<(), Fail> {
     let mut rows = [Row::default(); 2];
     let mut store = Packed::new(Plan::of(&[1, 1])?, &mut rows);
-    let mut places = [blank_place()?; 1];
+    let mut places = [blank_place(); 1];
     plays_each(
         &mut [Session::closed()],
-        &records()?[0..1],
+        &records()[0..1],
         &mut store,
         &mut places,
         WITH_ONE_RECORD,
     )?;
-    assert_eq!(rt; places, [blank_place()?]);
+    assert_eq!(rt; places, [blank_place()]);
     Ok(())
 }
 
@@ -173,7 +178,7 @@ fn listing(
         Request(0, Insert(0, (0, 2), (0, 9))).try_into()?,
         Request(0, Select(0, ALL, 3)).try_into()?,
     ];
-    let answer = serve_all(sessions, &records()?, &mut store, &requests, events, places);
+    let answer = serve_all(sessions, &records(), &mut store, &requests, events, places);
     Ok((answer, store.row_count(0)))
 }
 
@@ -188,7 +193,7 @@ fn refuses(
     let answer = listing(&mut sessions, events, places)?;
     assert_eq!(rt; answer, (Err(expected), Some(1)));
     assert_eq!(rt; sessions, [Session::closed()]);
-    let blank = blank_place()?;
+    let blank = blank_place();
     assert!(rt; events.iter().all(|event| *event == blank_event()));
     assert!(rt; places.iter().all(|place| *place == blank));
     Ok(())
@@ -197,21 +202,32 @@ fn refuses(
 #[test]
 fn lists_with_too_little_room(rt: HostRuntime) -> Result<(), Fail> {
     let event = blank_event();
-    let place = blank_place()?;
+    let place = blank_place();
     refuses(&rt, &mut [event; 3], &mut [place; 5], ShortBuffer::Events)?;
     refuses(&rt, &mut [event; 3], &mut [place; 1], ShortBuffer::Events)?;
-    refuses(&rt, &mut [event; 4], &mut [place; 4], ShortBuffer::Places(3))?;
-    refuses(&rt, &mut [event; 4], &mut [place; 1], ShortBuffer::Places(1))
+    refuses(
+        &rt,
+        &mut [event; 4],
+        &mut [place; 4],
+        ShortBuffer::Places(3),
+    )?;
+    refuses(
+        &rt,
+        &mut [event; 4],
+        &mut [place; 1],
+        ShortBuffer::Places(1),
+    )
 }
 
 #[test]
 fn a_list_with_just_enough_room(rt: HostRuntime) -> Result<(), Fail> {
     let mut sessions = [Session::closed()];
     let mut events = [blank_event(); 4];
-    let mut places = [blank_place()?; 5];
+    let mut places = [blank_place(); 5];
     let answer = listing(&mut sessions, &mut events, &mut places)?;
     assert_eq!(rt; answer, (Ok(()), Some(2)));
-    assert_eq!(rt; events.map(|event| event.answer),
+    assert_eq!(rt;
+        events.map(|event| event.answer),
         [
             Ok(Answer::Done),
             Ok(Answer::Filled(1)),
@@ -225,11 +241,11 @@ fn a_list_with_just_enough_room(rt: HostRuntime) -> Result<(), Fail> {
     assert_eq!(rt;
         places,
         [
-            place(1, (1, 4), (4, -250))?,
-            blank_place()?,
-            place(1, (1, 4), (4, -250))?,
-            place(2, (1, 2), (2, 9))?,
-            blank_place()?,
+            place(1, sealed(1, 4), sealed(4, -250)),
+            blank_place(),
+            place(1, sealed(1, 4), sealed(4, -250)),
+            place(2, sealed(1, 2), sealed(2, 9)),
+            blank_place(),
         ]
     );
     Ok(())
