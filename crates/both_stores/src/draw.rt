@@ -2,6 +2,7 @@
 use labels::{Label, Rung};
 use monitor::{Ask, Request};
 use sessions::Sealed;
+use std::alloc::{AllocError, Global};
 use tables::{Predicate, Range};
 
 #[derive(Drop)]
@@ -21,10 +22,7 @@ impl Draw {
             .wrapping_mul(6364136223846793005)
             .wrapping_add(1442695040888963407);
         let drawn = ((self.state >> 40) & 0xffff) as u16;
-        if count == 0 {
-            return 0;
-        }
-        drawn % count
+        drawn.checked_rem(count).unwrap_or(0)
     }
 
     // The same, where low numbers come more often.
@@ -128,17 +126,20 @@ impl Draw {
         Request { session, ask }
     }
 
-    // A list, of which the first two requests open the first two sessions.
-    pub fn requests(&mut self, requests: &mut [Request<Rung>]) {
-        for (i, request) in requests.iter_mut().enumerate() {
-            *request = if i < 2 {
-                Request {
-                    session: i,
-                    ask: self.ask_to_open(),
-                }
-            } else {
-                self.request()
-            };
+    // A list of two requests that open the first two sessions, and so many more.
+    pub fn requests(
+        &mut self,
+        alloc: Global,
+        more: usize,
+    ) -> Result<Vec<Request<Rung>>, AllocError> {
+        let mut requests = Vec::new(alloc);
+        for session in 0..2 {
+            let ask = self.ask_to_open();
+            requests.push(Request { session, ask })?;
         }
+        for _ in 0..more {
+            requests.push(self.request())?;
+        }
+        Ok(requests)
     }
 }

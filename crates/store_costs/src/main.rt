@@ -5,25 +5,68 @@
 
 ghost use Rattle.store_costs.specs.Jobs.{noted, masked};
 
-use anyhow::anyhow;
+use anyhow::{Context, bail};
 use chained::{Cell, Chained};
 use packed::Packed;
 use std::env;
 use stores::{Edit, Fate, Plan, Row, Store, Visit};
+use thiserror::Error;
 
-const NO_ROW: Row = Row {
-    key: 0,
-    first: 0,
-    second: 0,
-};
+const LIMIT: usize = 2048;
 
-const NO_CELL: Cell = Cell {
-    row: NO_ROW,
-    next: 0,
-};
+const USAGE: &str = "usage: store_costs packed|chained lay|add|walk|sweep ROWS MASK";
+
+// A word that names no store or no job.
+#[derive(Clone, Copy, PartialEq, Eq, Debug, Error)]
+enum UnknownWord<'a> {
+    #[error("no store is called {0:?}, but packed and chained are")]
+    Store(&'a str),
+    #[error("no job is called {0:?}, but lay, add, walk and sweep are")]
+    Job(&'a str),
+}
+
+#[derive(Clone, Copy, PartialEq, Eq, Debug)]
+enum Kind {
+    Packed,
+    Chained,
+}
+
+impl<'a> TryFrom<&'a str> for Kind {
+    type Error = UnknownWord<'a>;
+
+    fn try_from(word: &'a str) -> Result<Kind, UnknownWord<'a>> {
+        match word {
+            "packed" => Ok(Kind::Packed),
+            "chained" => Ok(Kind::Chained),
+            _ => Err(UnknownWord::Store(word)),
+        }
+    }
+}
+
+#[derive(Clone, Copy, PartialEq, Eq, Debug)]
+enum Job {
+    Lay,
+    Add,
+    Walk,
+    Sweep,
+}
+
+impl<'a> TryFrom<&'a str> for Job {
+    type Error = UnknownWord<'a>;
+
+    fn try_from(word: &'a str) -> Result<Job, UnknownWord<'a>> {
+        match word {
+            "lay" => Ok(Job::Lay),
+            "add" => Ok(Job::Add),
+            "walk" => Ok(Job::Walk),
+            "sweep" => Ok(Job::Sweep),
+            _ => Err(UnknownWord::Job(word)),
+        }
+    }
+}
 
 // A number worked out from all keys in their order.
-#[derive(Drop)]
+#[derive(Default, Drop)]
 pub struct Digest {
     digest: u64,
 }
@@ -61,41 +104,48 @@ fn fill<S: Store>(store: &mut S, rows: usize) {
 }
 
 // Answers a number that depends on all that was done, so that none of it can be left out.
-fn work<S: Store>(store: &mut S, job: &str, rows: usize, mask: u32) -> u64 {
-    if job != "lay" {
+fn work<S: Store>(store: &mut S, job: Job, rows: usize, mask: u32) -> u64 {
+    if job != Job::Lay {
         fill(store, rows);
     }
     match job {
-        "walk" => {
-            let mut digest = Digest { digest: 0 };
+        Job::Lay | Job::Add => store.row_count(0).unwrap_or(0) as u64,
+        Job::Walk => {
+            let mut digest = Digest::default();
             store.walk(0, &mut digest);
             digest.digest
         }
-        "sweep" => store.sweep(0, &Masked { mask }) as u64,
-        _ => store.row_count(0).unwrap_or(0) as u64,
+        Job::Sweep => store.sweep(0, &Masked { mask }) as u64,
     }
 }
 
 fn run(rt: &HostRuntime) -> anyhow::Result<()> {
-    let mut args = env::args(rt)?;
-    let _ = args.next();
-    let (Some(kind), Some(job)) = (args.next(), args.next()) else {
-        return Err(anyhow!("usage: store_costs packed|chained lay|add|walk|sweep ROWS MASK"));
+    let mut args = env::args(rt)?.skip(1);
+    let (Some(kind), Some(job), Some(rows), Some(mask)) = (
+        args.next(),
+        args.next(),
+        args.next(),
+        args.next(),
+    ) else {
+        bail!("{USAGE}");
     };
-    let (Some(rows), Some(mask)) = (args.next(), args.next()) else {
-        return Err(anyhow!("usage: store_costs packed|chained lay|add|walk|sweep ROWS MASK"));
-    };
-    let rows: usize = rows.parse()?;
-    let mask: u32 = mask.parse()?;
-    let plan = Plan::of(&[2048])?;
-    let answer = if kind.as_str() == "chained" {
-        let mut cells = [NO_CELL; 2048];
-        let mut store = Chained::new(plan, &mut cells);
-        work(&mut store, &job, rows, mask)
-    } else {
-        let mut held = [NO_ROW; 2048];
-        let mut store = Packed::new(plan, &mut held);
-        work(&mut store, &job, rows, mask)
+    let kind = Kind::try_from(kind.as_str()).context(USAGE)?;
+    let job = Job::try_from(job.as_str()).context(USAGE)?;
+    let rows = rows.parse().context(format_args!("ROWS {rows:?}"))?;
+    let mask = mask.parse().context(format_args!("MASK {mask:?}"))?;
+    let plan = Plan::of(&[LIMIT])?;
+    let answer = match kind {
+        Kind::Packed => {
+            let mut held = [Row::default(); LIMIT];
+            work(&mut Packed::new(plan, &mut held), job, rows, mask)
+        }
+        Kind::Chained => {
+            let mut cells = [Cell {
+                row: Row::default(),
+                next: 0,
+            }; LIMIT];
+            work(&mut Chained::new(plan, &mut cells), job, rows, mask)
+        }
     };
     println!(rt; "{answer}")?;
     Ok(())

@@ -1,127 +1,127 @@
-// Requests as a person writes them, with labels as numbers, and what they answer.
+// Serving requests by the calls of the sessions and of the tables themselves.
 use labels::{Rung, UnlawfulLabel};
+use monitor::{Answer, ShortBuffer};
 use packed::Packed;
-use sessions::{Refusal, Sealed, Session};
+use rung_cases::{Ask, Request, sealed};
+use sessions::{Refusal, Session};
 use tables::{Place, Predicate, TableRecord};
+use thiserror::Error;
 
-// What is asked of a session: opening from a label to a clearance, raising to a label, lowering the clearance to a label,
-// sealing a value under a label, unsealing what a label seals; and of a table of a number: selecting with so many places,
-// inserting two sealed values, deleting.
-#[derive(Clone, Copy)]
-pub enum Ask {
-    Open(u64, u64),
-    Raise(u64),
-    Lower(u64),
-    Seal(i32, u64),
-    Unseal(u64, i32),
-    Select(usize, Predicate, usize),
-    Insert(usize, (u64, i32), (u64, i32)),
-    Delete(usize, Predicate),
-}
-
-// The number of a session, and what is asked of it.
-#[derive(Clone, Copy)]
-pub struct Request(pub usize, pub Ask);
-
-#[derive(Drop)]
-pub enum Answer {
-    Done,
-    Sealed(Sealed<Rung>),
-    Value(i32),
-    Rows(usize),
-    Key(u32),
-    Deleted(usize),
-}
-
-// Why a request has no answer: a number in it makes no label, or it is turned down.
-#[derive(Drop)]
+// Why a request has no answer: a number in it makes no label, it is turned down, or it asks for more places than there are.
+#[derive(Clone, Copy, PartialEq, Eq, Debug, Error)]
 pub enum Fault {
-    Label(UnlawfulLabel),
-    Request(Refusal<Rung>),
+    #[error(transparent)]
+    Label(#[from] UnlawfulLabel),
+    #[error(transparent)]
+    Request(#[from] Refusal<Rung>),
+    #[error(transparent)]
+    Places(#[from] ShortBuffer),
 }
 
-impl From<UnlawfulLabel> for Fault {
-    fn from(e: UnlawfulLabel) -> Fault {
-        Fault::Label(e)
+impl Fault {
+    // The number of the refusal, none where the request is not served at all.
+    pub fn number(self) -> Option<u8> {
+        match self {
+            Fault::Label(unlawful) => Some(unlawful.number()),
+            Fault::Request(refusal) => Some(refusal.number()),
+            Fault::Places(_) => None,
+        }
     }
-}
-
-impl From<Refusal<Rung>> for Fault {
-    fn from(e: Refusal<Rung>) -> Fault {
-        Fault::Request(e)
-    }
-}
-
-fn sealed(label: u64, value: i32) -> Result<Sealed<Rung>, UnlawfulLabel> {
-    Ok(Sealed::new(Rung::new(label)?, value))
 }
 
 // The host's side: the sessions, the table records, the store, and places for what selections answer.
-pub fn serve(
-    sessions: &mut [Session<Rung>],
-    records: &[TableRecord<Rung>],
-    store: &mut Packed,
-    places: &mut [Place<Rung>],
-    request: Request,
-) -> Result<Answer, Fault> {
-    let Request(session, ask) = request;
-    match ask {
-        Ask::Open(label, clearance) => {
-            sessions::open(sessions, session, Rung::new(label)?, Rung::new(clearance)?)?;
-            Ok(Answer::Done)
-        }
-        Ask::Raise(to) => {
-            sessions::raise(sessions, session, Rung::new(to)?)?;
-            Ok(Answer::Done)
-        }
-        Ask::Lower(to) => {
-            sessions::lower_clearance(sessions, session, Rung::new(to)?)?;
-            Ok(Answer::Done)
-        }
-        Ask::Seal(value, under) => {
-            let sealed = sessions::seal(sessions, session, value, Rung::new(under)?)?;
-            Ok(Answer::Sealed(sealed))
-        }
-        Ask::Unseal(label, value) => Ok(Answer::Value(sessions::unseal(
-            sessions,
-            session,
-            sealed(label, value)?,
-        )?)),
-        Ask::Select(table, predicate, room) => select(
-            sessions, records, store, places, session, table, predicate, room,
-        ),
-        Ask::Insert(table, first, second) => {
-            let first = sealed(first.0, first.1)?;
-            let second = sealed(second.0, second.1)?;
-            Ok(Answer::Key(tables::insert(
-                sessions, records, store, session, table, first, second,
-            )?))
-        }
-        Ask::Delete(table, predicate) => Ok(Answer::Deleted(tables::delete(
-            sessions, records, store, session, table, predicate,
-        )?)),
-    }
+#[derive(Drop)]
+pub struct Host<'a> {
+    pub sessions: &'a mut [Session<Rung>],
+    pub records: &'a [TableRecord<Rung>],
+    pub store: Packed<'a>,
+    pub places: &'a mut [Place<Rung>],
 }
 
-// The first `room` places are lent, or all where there are fewer.
-fn select(
-    sessions: &mut [Session<Rung>],
-    records: &[TableRecord<Rung>],
-    store: &Packed,
-    places: &mut [Place<Rung>],
-    session: usize,
-    table: usize,
-    predicate: Predicate,
-    room: usize,
-) -> Result<Answer, Fault> {
-    let end = room.min(places.len());
-    Ok(Answer::Rows(tables::select(
-        sessions,
-        records,
-        store,
-        session,
-        table,
-        predicate,
-        &mut places[0..end],
-    )?))
+impl Host<'_> {
+    pub fn serve(&mut self, request: Request) -> Result<Answer<Rung>, Fault> {
+        let Request(session, ask) = request;
+        Ok(match ask {
+            Ask::Open(label, clearance) => {
+                sessions::open(
+                    self.sessions,
+                    session,
+                    Rung::new(label)?,
+                    Rung::new(clearance)?,
+                )?;
+                Answer::Done
+            }
+            Ask::Raise(to) => {
+                sessions::raise(self.sessions, session, Rung::new(to)?)?;
+                Answer::Done
+            }
+            Ask::Lower(to) => {
+                sessions::lower_clearance(self.sessions, session, Rung::new(to)?)?;
+                Answer::Done
+            }
+            Ask::Seal(value, under) => Answer::Sealed(sessions::seal(
+                self.sessions,
+                session,
+                value,
+                Rung::new(under)?,
+            )?),
+            Ask::Unseal(label, value) => Answer::Value(sessions::unseal(
+                self.sessions,
+                session,
+                sealed(label, value)?,
+            )?),
+            Ask::Select(table, predicate, room) => {
+                Answer::Filled(self.select(session, table, predicate, room)?)
+            }
+            Ask::Insert(table, (a, first), (b, second)) => Answer::Key(tables::insert(
+                self.sessions,
+                self.records,
+                &mut self.store,
+                session,
+                table,
+                sealed(a, first)?,
+                sealed(b, second)?,
+            )?),
+            Ask::Delete(table, predicate) => Answer::Changed(tables::delete(
+                self.sessions,
+                self.records,
+                &mut self.store,
+                session,
+                table,
+                predicate,
+            )?),
+            Ask::Update(table, predicate, (a, first), (b, second)) => {
+                Answer::Changed(tables::update(
+                    self.sessions,
+                    self.records,
+                    &mut self.store,
+                    session,
+                    table,
+                    predicate,
+                    sealed(a, first)?,
+                    sealed(b, second)?,
+                )?)
+            }
+        })
+    }
+
+    // The first `room` places are lent.
+    fn select(
+        &mut self,
+        session: usize,
+        table: usize,
+        predicate: Predicate,
+        room: usize,
+    ) -> Result<usize, Fault> {
+        let places = self.places.get_mut(..room).ok_or(ShortBuffer::Places(0))?;
+        Ok(tables::select(
+            self.sessions,
+            self.records,
+            &self.store,
+            session,
+            table,
+            predicate,
+            places,
+        )?)
+    }
 }

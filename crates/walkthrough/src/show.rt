@@ -1,97 +1,64 @@
-// Requests and answers in words.
-use crate::play::{Answer, Ask, Fault, Request};
+// Answers, rows and standings in words.
+use crate::play::Fault;
 use labels::Rung;
-use sessions::{Sealed, Session};
-use std::alloc::{AllocError, Global};
-use tables::{Place, Predicate, Range};
+use monitor::Answer;
+use rung_cases::Ask;
+use std::fmt;
+use tables::Place;
 
-fn show_range(heap: Global, field: &str, range: Option<Range>) -> Result<String, AllocError> {
-    match range {
-        None => format!(in heap; ""),
-        Some(Range { low, high }) => format!(in heap; ", {field} {low} to {high}"),
+// A sealed value, as its label and its value.
+#[derive(Clone, Copy)]
+struct Sealed(sessions::Sealed<Rung>);
+
+impl fmt::Display for Sealed {
+    fn fmt<W: fmt::Write>(&self, f: &mut fmt::Formatter<W>) -> fmt::Result {
+        let Sealed(sealed) = self;
+        write!(f, "{}:{}", sealed.label(), sealed.host_value())
     }
 }
 
-fn show_predicate(heap: Global, predicate: Predicate) -> Result<String, AllocError> {
-    let key = show_range(heap, "key", predicate.key)?;
-    let first = show_range(heap, "first", predicate.first)?;
-    let second = show_range(heap, "second", predicate.second)?;
-    format!(in heap; "{key}{first}{second}")
-}
+// What a request that asks for this is answered.
+#[derive(Clone, Copy)]
+pub struct Reply(pub Ask, pub Result<Answer<Rung>, Fault>);
 
-pub fn show_request(heap: Global, request: Request) -> Result<String, AllocError> {
-    let Request(session, ask) = request;
-    match ask {
-        Ask::Open(label, clearance) => format!(in heap;
-            "open session {session} from {label} to {clearance}"
-        ),
-        Ask::Raise(to) => format!(in heap; "session {session} raises its label to {to}"),
-        Ask::Lower(to) => format!(in heap; "session {session} lowers its clearance to {to}"),
-        Ask::Seal(value, under) => format!(in heap;
-            "session {session} seals {value} under {under}"
-        ),
-        Ask::Unseal(label, value) => format!(in heap; "session {session} unseals {label}:{value}"),
-        Ask::Select(table, predicate, room) => {
-            let which = show_predicate(heap, predicate)?;
-            format!(in heap; "session {session} selects in {table}{which}, places {room}")
-        }
-        Ask::Insert(table, first, second) => {
-            let (a, f) = first;
-            let (b, g) = second;
-            format!(in heap; "session {session} inserts in {table}: {a}:{f}, {b}:{g}")
-        }
-        Ask::Delete(table, predicate) => {
-            let which = show_predicate(heap, predicate)?;
-            format!(in heap; "session {session} deletes in {table}{which}")
+impl fmt::Display for Reply {
+    fn fmt<W: fmt::Write>(&self, f: &mut fmt::Formatter<W>) -> fmt::Result {
+        match self {
+            Reply(_, Ok(Answer::Done)) => write!(f, "done"),
+            Reply(_, Ok(Answer::Sealed(sealed))) => write!(f, "{}", Sealed(*sealed)),
+            Reply(_, Ok(Answer::Value(value))) => write!(f, "{value}"),
+            Reply(_, Ok(Answer::Filled(count))) => write!(f, "rows: {count}"),
+            Reply(_, Ok(Answer::Key(key))) => write!(f, "key {key}"),
+            Reply(Ask::Update(..), Ok(Answer::Changed(count))) => write!(f, "updated: {count}"),
+            Reply(_, Ok(Answer::Changed(count))) => write!(f, "deleted: {count}"),
+            Reply(_, Err(fault)) => match fault.number() {
+                Some(number) => write!(f, "refused ({number}): {fault}"),
+                None => write!(f, "not served: {fault}"),
+            },
         }
     }
 }
 
-fn show_sealed(heap: Global, sealed: Sealed<Rung>) -> Result<String, AllocError> {
-    let label = sealed.label();
-    let value = sealed.host_value();
-    format!(in heap; "{label}:{value}")
-}
+// A row as it is answered.
+#[derive(Clone, Copy)]
+pub struct Answered(pub Place<Rung>);
 
-pub fn show_answer(heap: Global, answer: &Result<Answer, Fault>) -> Result<String, AllocError> {
-    match answer {
-        Ok(Answer::Done) => format!(in heap; "done"),
-        Ok(Answer::Sealed(sealed)) => show_sealed(heap, *sealed),
-        Ok(Answer::Value(value)) => format!(in heap; "{value}"),
-        Ok(Answer::Rows(count)) => format!(in heap; "rows: {count}"),
-        Ok(Answer::Key(key)) => format!(in heap; "key {key}"),
-        Ok(Answer::Deleted(count)) => format!(in heap; "deleted: {count}"),
-        Err(Fault::Label(e)) => {
-            let number = e.number();
-            format!(in heap; "refused ({number}): {e}")
-        }
-        Err(Fault::Request(e)) => {
-            let number = e.number();
-            format!(in heap; "refused ({number}): {e}")
-        }
+impl fmt::Display for Answered {
+    fn fmt<W: fmt::Write>(&self, f: &mut fmt::Formatter<W>) -> fmt::Result {
+        let Answered(Place { key, first, second }) = self;
+        write!(f, "key {key}, {}, {}", Sealed(*first), Sealed(*second))
     }
 }
 
-// A row as it was answered.
-pub fn show_place(heap: Global, place: Place<Rung>) -> Result<String, AllocError> {
-    let key = place.key;
-    let first = show_sealed(heap, place.first)?;
-    let second = show_sealed(heap, place.second)?;
-    format!(in heap; "key {key}, {first}, {second}")
-}
+// A session's label and clearance, or a minus sign for each where it is closed or missing.
+#[derive(Clone, Copy)]
+pub struct Standing(pub Option<(u8, u8)>);
 
-// The session's label and clearance, or a minus sign where it is closed or missing.
-pub fn show_standing(
-    heap: Global,
-    sessions: &[Session<Rung>],
-    session: usize,
-) -> Result<String, AllocError> {
-    if session < sessions.len()
-        && let Some(at) = sessions[session].standing()
-    {
-        let label = at.label().number();
-        let clearance = at.clearance().number();
-        return format!(in heap; "{label:>5}  {clearance:>9}");
+impl fmt::Display for Standing {
+    fn fmt<W: fmt::Write>(&self, f: &mut fmt::Formatter<W>) -> fmt::Result {
+        match self.0 {
+            Some((label, clearance)) => write!(f, "{label:>5}  {clearance:>9}"),
+            None => write!(f, "{:>5}  {:>9}", "-", "-"),
+        }
     }
-    format!(in heap; "{:>5}  {:>9}", "-", "-")
 }

@@ -1,613 +1,134 @@
-// Requests with the answers and standings that docs/MODEL.md gives them, worked out by hand.
-use self::Expected::{Deleted, Done, Key, Refused, Rows, Sealed, Value};
-use super::play::Ask::{Delete, Insert, Lower, Open, Raise, Seal, Select, Unseal};
-use super::play::{Answer, Fault, Request, serve};
-use labels::{Label, Rung};
+// The cases of `rung_cases`, served by the calls of the sessions and of the tables themselves.
+use super::play::{Fault, Host};
+use labels::Rung;
 use packed::Packed;
-use sessions::{Refusal, Session};
-use std::process::Abort;
+use rung_cases::cases::{
+    DELETING, INSERTING, KEYS_SPENT, OPENING_RAISING_LOWERING, SEALING_UNSEALING, SELECTING,
+    WITH_ONE_RECORD,
+};
+use rung_cases::{
+    Case, Expected, Outcome, Request, blank_place, place, play, records, standing_of,
+};
+use rung_requests::predicates::ALL;
+use rung_requests::sealed;
+use sessions::Session;
 use std::test::Fail;
 use stores::{Plan, Row, Store};
-use tables::{Place, Predicate, Range, SecondRule, TableRecord};
 
-// What is expected of an answer. A refusal has its number and, where one is returned, the label as left.
-#[derive(Clone, Copy, PartialEq, Debug)]
-enum Expected {
-    Done,
-    Sealed(u8, i32),
-    Value(i32),
-    Rows(usize),
-    Key(u32),
-    Deleted(usize),
-    Refused(u8, Option<u8>),
-}
-
-fn label_left(refusal: Refusal<Rung>) -> Option<u8> {
-    match refusal {
-        Refusal::NoSession | Refusal::SessionClosed | Refusal::OutOfRange => None,
-        Refusal::NoTable(label)
-        | Refusal::FirstAboveTable(label)
-        | Refusal::LabelAboveTarget(label)
-        | Refusal::FirstAboveField(label)
-        | Refusal::AboveClearance(label)
-        | Refusal::QueryAboveClearance(label)
-        | Refusal::QueryAboveTarget(label)
-        | Refusal::SecondAboveField(label)
-        | Refusal::TableFull(label)
-        | Refusal::KeysSpent(label)
-        | Refusal::TooFewPlaces(label) => Some(label.number()),
+impl From<Fault> for Expected {
+    fn from(fault: Fault) -> Expected {
+        match fault {
+            Fault::Label(unlawful) => unlawful.into(),
+            Fault::Request(refusal) => refusal.into(),
+            Fault::Places(short) => short.into(),
+        }
     }
 }
 
-fn brief(answer: Result<Answer, Fault>) -> Expected {
-    match answer {
-        Ok(Answer::Done) => Done,
-        Ok(Answer::Sealed(sealed)) => Sealed(sealed.label().number(), sealed.host_value()),
-        Ok(Answer::Value(value)) => Value(value),
-        Ok(Answer::Rows(count)) => Rows(count),
-        Ok(Answer::Key(key)) => Key(key),
-        Ok(Answer::Deleted(count)) => Deleted(count),
-        Err(Fault::Label(e)) => Refused(e.number(), None),
-        Err(Fault::Request(e)) => Refused(e.number(), label_left(e)),
-    }
+fn outcome(host: &mut Host, request: Request) -> Outcome {
+    let answer = host.serve(request).into();
+    (answer, standing_of(host.sessions, request.0))
 }
 
-fn standing(sessions: &[Session<Rung>], session: usize) -> Option<(u8, u8)> {
-    if session < sessions.len()
-        && let Some(at) = sessions[session].standing()
-    {
-        return Some((at.label().number(), at.clearance().number()));
-    }
-    None
-}
-
-// A request, its answer, and its session's label and clearance after it.
-type Case = (Request, Expected, Option<(u8, u8)>);
-
-fn record(table: u64, first: u64, second: SecondRule<Rung>) -> Result<TableRecord<Rung>, Fail> {
-    Ok(TableRecord {
-        table: Rung::new(table)?,
-        first: Rung::new(first)?,
-        second,
-    })
-}
-
-// Tables 0 to 4 are in the store; record 5 has no table.
-fn records() -> Result<[TableRecord<Rung>; 6], Fail> {
-    Ok([
-        record(2, 1, SecondRule::Own)?,
-        record(0, 0, SecondRule::Fixed(Rung::new(5)?))?,
-        record(1, 3, SecondRule::Own)?,
-        record(3, 0, SecondRule::Meet(Rung::new(4)?))?,
-        record(1, 1, SecondRule::Join(Rung::new(2)?))?,
-        record(0, 0, SecondRule::Own)?,
-    ])
-}
-
-fn place() -> Place<Rung> {
-    let nothing = sessions::Sealed::new(Rung::lowest(), -1);
-    Place {
-        key: 99,
-        first: nothing,
-        second: nothing,
-    }
-}
-
-fn plays_each(
-    rt: &impl Abort,
-    sessions: &mut [Session<Rung>],
-    records: &[TableRecord<Rung>],
-    store: &mut Packed,
-    places: &mut [Place<Rung>],
+// On a new store, once so many keys of its first table are given and taken back.
+fn plays_on<const N: usize>(
+    plan: Plan<N>,
+    rows: &mut [Row; N],
+    spent: usize,
     cases: &[Case],
-) {
-    for (request, expected, after) in cases {
-        let answer = serve(sessions, records, store, places, *request);
-        assert_eq!(rt; brief(answer), *expected);
-        assert_eq!(rt; standing(sessions, request.0), *after);
-    }
-}
-
-fn plays_on(rt: &impl Abort, store: &mut Packed, cases: &[Case]) -> Result<(), Fail> {
-    let records = records()?;
-    let mut places = [place(); 4];
+) -> Result<(), Fail> {
+    let records = records();
     let mut sessions = [Session::closed(), Session::closed(), Session::closed()];
-    plays_each(rt, &mut sessions, &records, store, &mut places, cases);
+    let mut places = [blank_place(); 4];
+    let mut host = Host {
+        sessions: &mut sessions,
+        records: &records,
+        store: Packed::new(plan, rows),
+        places: &mut places,
+    };
+    for _ in 0..spent {
+        let _ = host.store.add(0, 0, 0);
+        let _ = host.store.remove(0, 0);
+    }
+    play(cases, |request| outcome(&mut host, request))?;
     Ok(())
 }
 
-fn plays(rt: &impl Abort, cases: &[Case]) -> Result<(), Fail> {
+fn plays(cases: &[Case]) -> Result<(), Fail> {
     let mut rows = [Row {
         key: 7,
         first: -7,
         second: 77,
     }; 7];
-    let mut store = Packed::new(Plan::of(&[2, 1, 1, 0, 3])?, &mut rows);
-    plays_on(rt, &mut store, cases)
-}
-
-const OPENING_RAISING_LOWERING: [Case; 27] = [
-    (Request(3, Open(0, 7)), Refused(1, None), None),
-    (Request(0, Open(3, 2)), Refused(5, None), None),
-    (Request(0, Open(0, 8)), Refused(15, None), None),
-    (Request(3, Raise(0)), Refused(1, None), None),
-    (Request(3, Raise(8)), Refused(15, None), None),
-    (Request(0, Raise(0)), Refused(2, None), None),
-    (Request(3, Lower(7)), Refused(1, None), None),
-    (Request(0, Lower(7)), Refused(2, None), None),
-    (Request(0, Open(7, 7)), Done, Some((7, 7))),
-    (Request(0, Open(0, 0)), Done, Some((0, 0))),
-    (Request(0, Raise(1)), Refused(8, Some(0)), Some((0, 0))),
-    (Request(0, Open(2, 6)), Done, Some((2, 6))),
-    (Request(0, Open(6, 2)), Refused(5, None), Some((2, 6))),
-    (Request(0, Raise(0)), Done, Some((2, 6))),
-    (Request(0, Raise(4)), Done, Some((4, 6))),
-    (Request(0, Raise(3)), Done, Some((4, 6))),
-    (Request(0, Raise(7)), Refused(8, Some(4)), Some((4, 6))),
-    (Request(0, Lower(7)), Refused(5, None), Some((4, 6))),
-    (Request(0, Lower(3)), Refused(5, None), Some((4, 6))),
-    (Request(0, Lower(6)), Done, Some((4, 6))),
-    (Request(0, Lower(5)), Done, Some((4, 5))),
-    (Request(0, Raise(6)), Refused(8, Some(4)), Some((4, 5))),
-    (Request(0, Raise(5)), Done, Some((5, 5))),
-    (Request(0, Lower(5)), Done, Some((5, 5))),
-    (Request(1, Raise(0)), Refused(2, None), None),
-    (Request(1, Open(0, 7)), Done, Some((0, 7))),
-    (Request(0, Raise(0)), Done, Some((5, 5))),
-];
-
-const SEALING_UNSEALING: [Case; 17] = [
-    (Request(3, Seal(9, 0)), Refused(1, None), None),
-    (Request(0, Seal(9, 0)), Refused(2, None), None),
-    (Request(3, Unseal(0, 9)), Refused(1, None), None),
-    (Request(0, Unseal(0, 9)), Refused(2, None), None),
-    (Request(0, Open(2, 5)), Done, Some((2, 5))),
-    (Request(0, Seal(9, 1)), Refused(5, None), Some((2, 5))),
-    (Request(0, Seal(9, 6)), Refused(5, None), Some((2, 5))),
-    (
-        Request(0, Seal(9, 18446744073709551615)),
-        Refused(15, None),
-        Some((2, 5)),
-    ),
-    (
-        Request(0, Seal(-2147483648, 2)),
-        Sealed(2, -2147483648),
-        Some((2, 5)),
-    ),
-    (
-        Request(0, Seal(2147483647, 5)),
-        Sealed(5, 2147483647),
-        Some((2, 5)),
-    ),
-    (Request(0, Unseal(6, 9)), Refused(8, Some(2)), Some((2, 5))),
-    (Request(0, Unseal(1, -9)), Value(-9), Some((2, 5))),
-    (Request(0, Unseal(5, 0)), Value(0), Some((5, 5))),
-    (Request(0, Seal(9, 4)), Refused(5, None), Some((5, 5))),
-    (Request(1, Open(0, 7)), Done, Some((0, 7))),
-    (Request(1, Unseal(7, 9)), Value(9), Some((7, 7))),
-    (Request(1, Seal(9, 7)), Sealed(7, 9), Some((7, 7))),
-];
-
-const ALL: Predicate = Predicate {
-    key: None,
-    first: None,
-    second: None,
-};
-
-const KEY_2: Predicate = Predicate {
-    key: Some(Range { low: 2, high: 2 }),
-    first: None,
-    second: None,
-};
-
-const KEY_UP_TO_1: Predicate = Predicate {
-    key: Some(Range { low: -5, high: 1 }),
-    first: None,
-    second: None,
-};
-
-const FIRST_4_TO_6: Predicate = Predicate {
-    key: None,
-    first: Some(Range { low: 4, high: 6 }),
-    second: None,
-};
-
-const FIRST_4_OF_KEY_2: Predicate = Predicate {
-    key: Some(Range { low: 2, high: 2 }),
-    first: Some(Range { low: 4, high: 4 }),
-    second: None,
-};
-
-const FIRST_BACKWARDS: Predicate = Predicate {
-    key: None,
-    first: Some(Range { low: 5, high: 1 }),
-    second: None,
-};
-
-const LOW_SECONDS: Predicate = Predicate {
-    key: None,
-    first: None,
-    second: Some(Range {
-        low: -300,
-        high: -200,
-    }),
-};
-
-const SECOND_BACKWARDS: Predicate = Predicate {
-    key: None,
-    first: None,
-    second: Some(Range { low: 5, high: -5 }),
-};
-
-const SELECTING: [Case; 28] = [
-    (Request(3, Select(0, ALL, 4)), Refused(1, None), None),
-    (Request(2, Select(0, ALL, 4)), Refused(2, None), None),
-    (Request(0, Open(0, 7)), Done, Some((0, 7))),
-    (
-        Request(0, Select(5, ALL, 4)),
-        Refused(3, Some(0)),
-        Some((0, 7)),
-    ),
-    (
-        Request(0, Select(6, ALL, 4)),
-        Refused(3, Some(0)),
-        Some((0, 7)),
-    ),
-    (
-        Request(0, Select(2, ALL, 4)),
-        Refused(4, Some(0)),
-        Some((0, 7)),
-    ),
-    (Request(1, Open(0, 1)), Done, Some((0, 1))),
-    (
-        Request(1, Select(0, ALL, 4)),
-        Refused(8, Some(0)),
-        Some((0, 1)),
-    ),
-    (
-        Request(0, Insert(0, (1, 4), (4, -250))),
-        Key(1),
-        Some((2, 7)),
-    ),
-    (Request(0, Insert(0, (0, 6), (0, 10))), Key(2), Some((2, 7))),
-    (Request(1, Open(0, 3)), Done, Some((0, 3))),
-    (
-        Request(1, Select(0, LOW_SECONDS, 4)),
-        Refused(9, Some(2)),
-        Some((2, 3)),
-    ),
-    (
-        Request(1, Select(0, LOW_SECONDS, 0)),
-        Refused(9, Some(2)),
-        Some((2, 3)),
-    ),
-    (
-        Request(1, Select(0, SECOND_BACKWARDS, 0)),
-        Refused(9, Some(2)),
-        Some((2, 3)),
-    ),
-    (
-        Request(1, Select(0, ALL, 1)),
-        Refused(14, Some(2)),
-        Some((2, 3)),
-    ),
-    (Request(1, Select(0, ALL, 2)), Rows(2), Some((2, 3))),
-    (Request(1, Select(0, ALL, 4)), Rows(2), Some((2, 3))),
-    (
-        Request(1, Select(0, KEY_2, 0)),
-        Refused(14, Some(2)),
-        Some((2, 3)),
-    ),
-    (Request(1, Select(0, KEY_2, 1)), Rows(1), Some((2, 3))),
-    (
-        Request(1, Select(0, FIRST_BACKWARDS, 0)),
-        Rows(0),
-        Some((2, 3)),
-    ),
-    (Request(1, Select(0, KEY_UP_TO_1, 4)), Rows(1), Some((2, 3))),
-    (
-        Request(1, Select(0, FIRST_4_OF_KEY_2, 4)),
-        Rows(0),
-        Some((2, 3)),
-    ),
-    (
-        Request(1, Select(0, FIRST_4_TO_6, 4)),
-        Rows(2),
-        Some((2, 3)),
-    ),
-    (Request(2, Open(0, 0)), Done, Some((0, 0))),
-    (Request(2, Select(1, LOW_SECONDS, 0)), Rows(0), Some((0, 0))),
-    (
-        Request(0, Select(0, LOW_SECONDS, 0)),
-        Refused(14, Some(6)),
-        Some((6, 7)),
-    ),
-    (
-        Request(0, Select(0, SECOND_BACKWARDS, 0)),
-        Rows(0),
-        Some((6, 7)),
-    ),
-    (Request(0, Select(1, LOW_SECONDS, 0)), Rows(0), Some((6, 7))),
-];
-
-const INSERTING: [Case; 28] = [
-    (
-        Request(3, Insert(0, (0, 0), (0, 0))),
-        Refused(1, None),
-        None,
-    ),
-    (
-        Request(2, Insert(0, (0, 0), (0, 0))),
-        Refused(2, None),
-        None,
-    ),
-    (Request(0, Open(3, 7)), Done, Some((3, 7))),
-    (
-        Request(0, Insert(5, (0, 0), (0, 0))),
-        Refused(3, Some(3)),
-        Some((3, 7)),
-    ),
-    (
-        Request(0, Insert(2, (0, 0), (0, 0))),
-        Refused(4, Some(3)),
-        Some((3, 7)),
-    ),
-    (
-        Request(0, Insert(0, (0, 0), (0, 0))),
-        Refused(6, Some(3)),
-        Some((3, 7)),
-    ),
-    (
-        Request(0, Insert(0, (2, 4), (0, 0))),
-        Refused(6, Some(3)),
-        Some((3, 7)),
-    ),
-    (Request(0, Open(0, 7)), Done, Some((0, 7))),
-    (
-        Request(0, Insert(0, (2, 4), (0, 9))),
-        Refused(7, Some(0)),
-        Some((0, 7)),
-    ),
-    (Request(0, Open(0, 1)), Done, Some((0, 1))),
-    (
-        Request(0, Insert(0, (1, 4), (0, 0))),
-        Refused(8, Some(0)),
-        Some((0, 1)),
-    ),
-    (
-        Request(0, Insert(0, (2, 4), (0, 0))),
-        Refused(7, Some(0)),
-        Some((0, 1)),
-    ),
-    (Request(0, Open(0, 7)), Done, Some((0, 7))),
-    (
-        Request(0, Insert(0, (0, 0), (1, 0))),
-        Refused(11, Some(2)),
-        Some((2, 7)),
-    ),
-    (Request(0, Insert(0, (0, -1), (7, 0))), Key(1), Some((2, 7))),
-    (Request(0, Insert(0, (1, 8), (7, 0))), Key(2), Some((2, 7))),
-    (
-        Request(0, Insert(0, (1, 8), (7, 0))),
-        Refused(12, Some(2)),
-        Some((2, 7)),
-    ),
-    (
-        Request(0, Insert(3, (0, 5), (5, 1))),
-        Refused(11, Some(3)),
-        Some((3, 7)),
-    ),
-    (
-        Request(0, Insert(3, (0, 1), (2, 1))),
-        Refused(11, Some(3)),
-        Some((3, 7)),
-    ),
-    (
-        Request(0, Insert(3, (0, 5), (4, 1))),
-        Refused(12, Some(3)),
-        Some((3, 7)),
-    ),
-    (Request(1, Open(0, 3)), Done, Some((0, 3))),
-    (
-        Request(1, Insert(1, (0, 1), (6, 1))),
-        Refused(11, Some(0)),
-        Some((0, 3)),
-    ),
-    (Request(1, Insert(1, (0, 1), (5, 1))), Key(1), Some((0, 3))),
-    (
-        Request(1, Insert(1, (0, 1), (5, 1))),
-        Refused(12, Some(0)),
-        Some((0, 3)),
-    ),
-    (
-        Request(1, Insert(4, (1, 1), (3, 3))),
-        Refused(11, Some(1)),
-        Some((1, 3)),
-    ),
-    (Request(1, Insert(4, (1, 1), (2, 3))), Key(1), Some((1, 3))),
-    (Request(1, Insert(4, (1, 9), (7, 3))), Key(2), Some((1, 3))),
-    (Request(1, Insert(4, (0, 0), (2, 3))), Key(3), Some((1, 3))),
-];
-
-const DELETING: [Case; 21] = [
-    (Request(3, Delete(0, ALL)), Refused(1, None), None),
-    (Request(2, Delete(0, ALL)), Refused(2, None), None),
-    (Request(0, Open(3, 7)), Done, Some((3, 7))),
-    (
-        Request(0, Delete(5, ALL)),
-        Refused(3, Some(3)),
-        Some((3, 7)),
-    ),
-    (
-        Request(0, Delete(2, ALL)),
-        Refused(4, Some(3)),
-        Some((3, 7)),
-    ),
-    (
-        Request(0, Delete(0, ALL)),
-        Refused(6, Some(3)),
-        Some((3, 7)),
-    ),
-    (Request(0, Open(0, 1)), Done, Some((0, 1))),
-    (
-        Request(0, Delete(0, ALL)),
-        Refused(8, Some(0)),
-        Some((0, 1)),
-    ),
-    (Request(0, Open(0, 7)), Done, Some((0, 7))),
-    (
-        Request(0, Insert(0, (1, 4), (4, -250))),
-        Key(1),
-        Some((2, 7)),
-    ),
-    (Request(0, Insert(0, (0, 2), (0, 10))), Key(2), Some((2, 7))),
-    (
-        Request(0, Delete(0, LOW_SECONDS)),
-        Refused(10, Some(2)),
-        Some((2, 7)),
-    ),
-    (
-        Request(0, Delete(0, SECOND_BACKWARDS)),
-        Refused(10, Some(2)),
-        Some((2, 7)),
-    ),
-    (
-        Request(0, Delete(0, FIRST_BACKWARDS)),
-        Deleted(0),
-        Some((2, 7)),
-    ),
-    (Request(0, Delete(0, KEY_2)), Deleted(1), Some((2, 7))),
-    (Request(0, Insert(0, (0, 2), (0, 10))), Key(3), Some((2, 7))),
-    (Request(0, Delete(0, ALL)), Deleted(2), Some((2, 7))),
-    (Request(0, Delete(0, LOW_SECONDS)), Deleted(0), Some((2, 7))),
-    (Request(0, Insert(0, (0, 2), (0, 10))), Key(4), Some((2, 7))),
-    (
-        Request(0, Insert(0, (0, 2), (0, -250))),
-        Key(5),
-        Some((2, 7)),
-    ),
-    (Request(0, Delete(0, LOW_SECONDS)), Deleted(1), Some((2, 7))),
-];
-
-const KEYS_SPENT: [Case; 5] = [
-    (Request(0, Open(0, 7)), Done, Some((0, 7))),
-    (
-        Request(0, Insert(0, (0, 0), (0, 0))),
-        Key(1000000),
-        Some((2, 7)),
-    ),
-    (
-        Request(0, Insert(0, (0, 0), (0, 0))),
-        Refused(12, Some(2)),
-        Some((2, 7)),
-    ),
-    (Request(0, Delete(0, ALL)), Deleted(1), Some((2, 7))),
-    (
-        Request(0, Insert(0, (0, 0), (0, 0))),
-        Refused(13, Some(2)),
-        Some((2, 7)),
-    ),
-];
-
-#[test]
-fn opening_raising_and_lowering(rt: HostRuntime) -> Result<(), Fail> {
-    plays(&rt, &OPENING_RAISING_LOWERING)
+    plays_on(Plan::of(&[2, 1, 1, 0, 3])?, &mut rows, 0, cases)
 }
 
 #[test]
-fn sealing_and_unsealing(rt: HostRuntime) -> Result<(), Fail> {
-    plays(&rt, &SEALING_UNSEALING)
+fn opening_raising_and_lowering() -> Result<(), Fail> {
+    plays(OPENING_RAISING_LOWERING)
 }
 
 #[test]
-fn selecting(rt: HostRuntime) -> Result<(), Fail> {
-    plays(&rt, &SELECTING)
+fn sealing_and_unsealing() -> Result<(), Fail> {
+    plays(SEALING_UNSEALING)
 }
 
 #[test]
-fn inserting(rt: HostRuntime) -> Result<(), Fail> {
-    plays(&rt, &INSERTING)
+fn selecting() -> Result<(), Fail> {
+    plays(SELECTING)
 }
 
 #[test]
-fn deleting(rt: HostRuntime) -> Result<(), Fail> {
-    plays(&rt, &DELETING)
+fn inserting() -> Result<(), Fail> {
+    plays(INSERTING)
 }
 
 #[test]
-fn keys_spent(rt: HostRuntime) -> Result<(), Fail> {
-    let mut rows = [Row {
-        key: 0,
-        first: 0,
-        second: 0,
-    }; 1];
-    let mut store = Packed::new(Plan::of(&[1])?, &mut rows);
-    for _ in 0..999_999 {
-        let _ = store.add(0, 0, 0);
-        let _ = store.remove(0, 0);
-    }
-    plays_on(&rt, &mut store, &KEYS_SPENT)
+fn deleting() -> Result<(), Fail> {
+    plays(DELETING)
+}
+
+#[test]
+fn keys_spent() -> Result<(), Fail> {
+    plays_on(
+        Plan::of(&[1])?,
+        &mut [Row::default(); 1],
+        999_999,
+        KEYS_SPENT,
+    )
 }
 
 #[test]
 fn later_places_are_untouched(rt: HostRuntime) -> Result<(), Fail> {
-    let records = records()?;
-    let mut rows = [Row {
-        key: 0,
-        first: 0,
-        second: 0,
-    }; 2];
+    let records = records();
+    let mut rows = [Row::default(); 2];
     let mut store = Packed::new(Plan::of(&[2])?, &mut rows);
     let _ = store.add(0, 4, -250);
     let mut sessions = [Session::closed()];
-    assert!(rt; sessions::open(&mut sessions, 0, Rung::new(0)?, Rung::new(7)?).is_ok());
-    let mut places = [place(); 2];
+    sessions::open(&mut sessions, 0, Rung::new(0)?, Rung::new(7)?)?;
+    let mut places = [blank_place(); 2];
     let answer = tables::select(&mut sessions, &records, &store, 0, 0, ALL, &mut places);
-    assert_eq!(rt; answer.ok(), Some(1));
-    let row = places[0];
+    assert_eq!(rt; answer, Ok(1));
     assert_eq!(rt;
-        (row.key, row.first.label().number(), row.first.host_value()),
-        (1, 1, 4)
+        places,
+        [place(1, sealed(1, 4), sealed(4, -250)), blank_place()]
     );
-    assert_eq!(rt;
-        (row.second.label().number(), row.second.host_value()),
-        (4, -250)
-    );
-    assert_eq!(rt; (places[1].key, places[1].second.host_value()), (99, -1));
     Ok(())
 }
 
 #[test]
 fn a_table_without_a_record_is_missing(rt: HostRuntime) -> Result<(), Fail> {
-    let records = records()?;
-    let mut rows = [Row {
-        key: 0,
-        first: 0,
-        second: 0,
-    }; 2];
-    let mut store = Packed::new(Plan::of(&[1, 1])?, &mut rows);
-    let mut places = [place(); 1];
-    plays_each(
-        &rt,
-        &mut [Session::closed()],
-        &records[0..1],
-        &mut store,
-        &mut places,
-        &[
-            (Request(0, Open(0, 7)), Done, Some((0, 7))),
-            (
-                Request(0, Select(1, ALL, 1)),
-                Refused(3, Some(0)),
-                Some((0, 7)),
-            ),
-            (Request(0, Insert(0, (0, 0), (0, 0))), Key(1), Some((2, 7))),
-            (
-                Request(0, Select(0, ALL, 0)),
-                Refused(14, Some(2)),
-                Some((2, 7)),
-            ),
-        ],
-    );
-    assert_eq!(rt; places[0].key, 99);
+    let records = records();
+    let mut rows = [Row::default(); 2];
+    let mut sessions = [Session::closed()];
+    let mut places = [blank_place(); 1];
+    let mut host = Host {
+        sessions: &mut sessions,
+        records: &records[0..1],
+        store: Packed::new(Plan::of(&[1, 1])?, &mut rows),
+        places: &mut places,
+    };
+    play(WITH_ONE_RECORD, |request| outcome(&mut host, request))?;
+    assert_eq!(rt; places, [blank_place()]);
     Ok(())
 }

@@ -1,6 +1,6 @@
 // A run with consent labels: two companies, the parties 0 and 2, share a table.
 use labels::{Consent, Label, UnlawfulLabel};
-use monitor::{Ask, Event, Request, serve_all};
+use monitor::{Ask, Event, Monitor, Request};
 use packed::Packed;
 use rung_requests::predicates::{ALL, LOW_SECONDS};
 use sessions::{Sealed, Session};
@@ -60,13 +60,12 @@ pub fn play(
     let mut rows = [Row::default(); 3];
     let mut store = Packed::new(Plan::of(&[3])?, &mut rows);
     let mut sessions = [Session::closed(), Session::closed()];
-    serve_all(
-        &mut sessions,
-        &[record()?],
-        &mut store,
-        &requests(),
-        events,
-        places,
-    )?;
+    let records = [record()?];
+    let mut monitor = Monitor {
+        sessions: &mut sessions,
+        records: &records,
+        store: &mut store,
+    };
+    monitor.serve_all(&requests(), events, places)?;
     Ok(())
 }

@@ -3,7 +3,7 @@ ghost use Rattle.std.specs.Prelude.{◌≡◌, Ok, slice_set};
 ghost use Rattle.worked_example.specs.Example.{worked, row_with, seen_at_3, seen_always};
 
 use labels::Rung;
-use monitor::{Event, serve_all};
+use monitor::{Event, Monitor};
 use packed::Packed;
 use rung_requests::example::{records, requests};
 use sessions::Session;
@@ -24,13 +24,12 @@ pub fn play(
     let mut rows = [Row::default(); 3];
     let mut store = Packed::new(Plan::of(&[2, 1])?, &mut rows);
     let mut sessions = [Session::closed(), Session::closed()];
-    serve_all(
-        &mut sessions,
-        &records(),
-        &mut store,
-        &requests(value),
-        events,
-        places,
-    )?;
+    let records = records();
+    let mut monitor = Monitor {
+        sessions: &mut sessions,
+        records: &records,
+        store: &mut store,
+    };
+    monitor.serve_all(&requests(value), events, places)?;
     Ok(())
 }

@@ -1,0 +1,129 @@
+// How often each kind of request and each refusal came.
+use labels::Rung;
+use monitor::{Answer, Ask, Event, Request};
+use sessions::Refusal;
+use std::alloc::{AllocError, Global};
+use std::collections::BTreeMap;
+use std::fmt;
+
+#[derive(Clone, Copy, PartialEq, Eq, PartialOrd, Ord, Debug)]
+enum Kind {
+    Open,
+    Raise,
+    Lower,
+    Seal,
+    Unseal,
+    Select,
+    Insert,
+    Delete,
+    Update,
+}
+
+impl From<Ask<Rung>> for Kind {
+    fn from(ask: Ask<Rung>) -> Kind {
+        match ask {
+            Ask::Open(..) => Kind::Open,
+            Ask::Raise(..) => Kind::Raise,
+            Ask::LowerClearance(..) => Kind::Lower,
+            Ask::Seal(..) => Kind::Seal,
+            Ask::Unseal(..) => Kind::Unseal,
+            Ask::Select(..) => Kind::Select,
+            Ask::Insert(..) => Kind::Insert,
+            Ask::Delete(..) => Kind::Delete,
+            Ask::Update(..) => Kind::Update,
+        }
+    }
+}
+
+impl fmt::Display for Kind {
+    fn fmt<W: fmt::Write>(&self, f: &mut fmt::Formatter<W>) -> fmt::Result {
+        f.write_str(match self {
+            Kind::Open => "open",
+            Kind::Raise => "raise",
+            Kind::Lower => "lower",
+            Kind::Seal => "seal",
+            Kind::Unseal => "unseal",
+            Kind::Select => "select",
+            Kind::Insert => "insert",
+            Kind::Delete => "delete",
+            Kind::Update => "update",
+        })
+    }
+}
+
+// Refusals are counted by their numbers, at 0 what was not refused. Rows are those inserted, deleted or updated, and selected.
+#[derive(Drop)]
+pub struct Counts {
+    lists: u32,
+    requests: u32,
+    kinds: BTreeMap<Kind, u32>,
+    refusals: BTreeMap<u8, u32>,
+    inserted: usize,
+    changed: usize,
+    selected: usize,
+}
+
+impl Counts {
+    pub fn new(alloc: Global) -> Counts {
+        Counts {
+            lists: 0,
+            requests: 0,
+            kinds: BTreeMap::new(alloc),
+            refusals: BTreeMap::new(alloc),
+            inserted: 0,
+            changed: 0,
+            selected: 0,
+        }
+    }
+
+    // A list that was served.
+    pub fn count(
+        &mut self,
+        requests: &[Request<Rung>],
+        events: &[Event<Rung>],
+    ) -> anyhow::Result<()> {
+        self.lists = self.lists.saturating_add(1);
+        for (request, event) in requests.iter().zip(events) {
+            self.requests = self.requests.saturating_add(1);
+            bump(&mut self.kinds, Kind::from(request.ask))?;
+            let refusal = event.answer.err().map_or(0, Refusal::number);
+            bump(&mut self.refusals, refusal)?;
+            match event.answer {
+                Ok(Answer::Key(_)) => self.inserted = self.inserted.saturating_add(1),
+                Ok(Answer::Changed(rows)) => self.changed = self.changed.saturating_add(rows),
+                Ok(Answer::Filled(rows)) => self.selected = self.selected.saturating_add(rows),
+                _ => {}
+            }
+        }
+        Ok(())
+    }
+}
+
+fn bump<K: Ord + Drop>(counts: &mut BTreeMap<K, u32>, key: K) -> Result<(), AllocError> {
+    let count = counts.entry(key)?.or_insert(0);
+    *count = count.saturating_add(1);
+    Ok(())
+}
+
+impl fmt::Display for Counts {
+    fn fmt<W: fmt::Write>(&self, f: &mut fmt::Formatter<W>) -> fmt::Result {
+        write!(f, "{} lists; {} requests", self.lists, self.requests)?;
+        for (kind, count) in self.kinds.iter() {
+            write!(f, "; {kind} {count}")?;
+        }
+        write!(f, "\nBy the number of the refusal, 0 where there is none:")?;
+        for (number, count) in self.refusals.iter() {
+            write!(f, " ({number}) {count}")?;
+        }
+        let Counts {
+            inserted,
+            changed,
+            selected,
+            ..
+        } = self;
+        write!(
+            f,
+            "\nRows inserted {inserted}, deleted or updated {changed}, selected {selected}"
+        )
+    }
+}
