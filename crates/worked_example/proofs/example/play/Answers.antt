@@ -15,9 +15,9 @@ played c =
     let limits : limits_of c.in_ok-of.field-0 ≡ 2 ∷ 1 ∷ [] = cc in
     let f : SFits w32 c.args.value = search rules in
     let h : to_z w32 (of_z w32 c.args.value) ≡ c.args.value = simp to_z-of_z in
-    plays c.args.value _ _ _ _ c.args.events.now _ c.args.places.now _ _ c.records.ensures
+    plays c.args.value _ _ _ _ c.args.events.now _ c.args.places.now _ _ c.records-records.ensures
     (λ i. state (c.closed.ensures i ∷ c.closed-2.ensures i ∷ []) ((c.new-store.ensures ∙ ap new_tables limits) i))
-    (c.requests.ensures ∙ ap requests_with h) (search rules) (search rules) c.serve_all.ensures
+    (c.requests.ensures ∙ ap requests_with h) (search rules) (search rules) c.serve_all.ensures.served
 
 pub returns-in_err-serve_all : goal.returns-in_err-serve_all
 returns-in_err-serve_all c =
