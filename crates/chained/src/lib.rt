@@ -5,8 +5,6 @@ mod chained;
 mod laying;
 mod lent;
 mod links;
-#[cfg(test)]
-mod tests;
 
 pub use chained::Chained;
 pub use links::Cell;

@@ -5,7 +5,5 @@ mod fill;
 mod laying;
 mod packed;
 mod stretch;
-#[cfg(test)]
-mod tests;
 
 pub use packed::Packed;

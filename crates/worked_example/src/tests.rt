@@ -24,8 +24,9 @@ fn plays_each(
     cases: &[Case],
 ) -> Result<(), Mismatch> {
     play(cases, |request| {
-        let answer = monitor::Request::try_from(request)
-            .map(|request| monitor.serve(request, places));
+        let answer = monitor::Request::try_from(request).map(|request| monitor.serve(
+            request, places,
+        ));
         (answer.into(), standing_of(monitor.sessions, request.0))
     })
 }

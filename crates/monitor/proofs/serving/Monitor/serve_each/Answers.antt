@@ -8,10 +8,10 @@ use Rattle.monitor.proofs.serving.Monitor.serve_each.Goals.{After-room}
 
 pub loop-i-init : goal.loop-i-init
 loop-i-init g c = (
-    omega arith,
-    left_first g.L.Label.kind c.args.self.now.records.now (state_of g.S.Store.tables c.args.self.now) c.args.requests.now c.args.events.now c.args.places.now c.requires.places,
-    search rules,
-    )
+  omega arith,
+  left_first g.L.Label.kind c.args.self.now.records.now (state_of g.S.Store.tables c.args.self.now) c.args.requests.now c.args.events.now c.args.places.now c.requires.places,
+  search rules,
+)
 
 -- the stretch of the request at hand ends within the places
 fits : (g : given.Over) (c : After-room g) → c.loop-i.start + room c.index-requests-i.result.ask ≤ length c.loop-i.places

@@ -1,37 +1,8 @@
-// Short runs over lent rows, with answers worked out by hand.
-ghost use Rattle.std.specs.Prelude.{◌%◌, pos, if◌then◌else◌, nat_eq};
-ghost use Rattle.stores.specs.declared.rows.Fate.TheVariants.{Keep, Rewrite, Remove};
-
-use crate::Packed;
-use std::process::Abort;
+// Short runs of the packed store over lent rows, with answers worked out by hand.
+use crate::checks::{GARBAGE, Thinning, check_adds, check_rows};
+use packed::Packed;
 use std::test::Fail;
-use stores::{Edit, Fate, Plan, Row, Store};
-
-const GARBAGE: Row = Row {
-    key: 77,
-    first: -7,
-    second: 7,
-};
-
-// A table, the values of a row to add to it, and the key given or the number of the refusal.
-type Adding = (usize, i32, i32, Result<u32, u8>);
-
-fn check_adds(rt: &impl Abort, store: &mut Packed, adds: &[Adding]) {
-    for &(table, first, second, expected) in adds {
-        let answer = store.add(table, first, second);
-        assert_eq!(rt; answer.map_err(|refusal| refusal.number()), expected);
-    }
-}
-
-// A table, a place in it, and the key and values of the row there.
-type Reading = (usize, usize, Option<(u32, i32, i32)>);
-
-fn check_rows(rt: &impl Abort, store: &Packed, readings: &[Reading]) {
-    for &(table, place, expected) in readings {
-        let row = store.row(table, place);
-        assert_eq!(rt; row.map(|row| (row.key, row.first, row.second)), expected);
-    }
-}
+use stores::{Plan, Store};
 
 #[test]
 fn starts_empty(rt: HostRuntime) -> Result<(), Fail> {
@@ -96,23 +67,6 @@ fn removal_keeps_order_and_keys_go_on(rt: HostRuntime) -> Result<(), Fail> {
         ],
     );
     Ok(())
-}
-
-// Removes the rows with an even key, and rewrites the third.
-struct Thinning;
-
-impl Edit for Thinning {
-    ghost decides = { λ _ r. (if nat_eq (r.key % 2) 0 then Remove else (if nat_eq r.key 3 then Rewrite (pos 7) (pos 8) else Keep)) };
-
-    fn decide(&self, row: Row) -> Fate {
-        if row.key % 2 == 0 {
-            Fate::Remove
-        } else if row.key == 3 {
-            Fate::Rewrite(7, 8)
-        } else {
-            Fate::Keep
-        }
-    }
 }
 
 #[test]

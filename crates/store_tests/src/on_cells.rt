@@ -1,50 +1,17 @@
-// Short runs over lent cells, with answers worked out by hand.
-ghost use Rattle.std.specs.Prelude.{◌%◌, pos, if◌then◌else◌, nat_eq};
-ghost use Rattle.stores.specs.declared.rows.Fate.TheVariants.{Keep, Rewrite, Remove};
-
-use crate::{Cell, Chained};
-use std::process::Abort;
+// Short runs of the chained store over lent cells, with answers worked out by hand.
+use crate::checks::{GARBAGE, Thinning, check_adds, check_rows};
+use chained::{Cell, Chained};
 use std::test::Fail;
-use stores::{Edit, Fate, Plan, Row, Store, Visit};
+use stores::{Plan, Row, Store, Visit};
 
-const GARBAGE: Cell = Cell {
-    row: Row {
-        key: 77,
-        first: -7,
-        second: 7,
-    },
+const CELL: Cell = Cell {
+    row: GARBAGE,
     next: 99,
 };
 
-// A table, the first value of a row to add to it, and the key given or the number of the refusal.
-type Adding = (usize, i32, Result<u32, u8>);
-
-fn check_adds(rt: &impl Abort, store: &mut Chained, adds: &[Adding]) {
-    for (table, first, expected) in adds {
-        let answer = match store.add(*table, *first, -1) {
-            Ok(key) => Ok(key),
-            Err(refusal) => Err(refusal.number()),
-        };
-        assert_eq!(rt; answer, *expected);
-    }
-}
-
-// A table, a place in it, and the key and values of the row there.
-type Reading = (usize, usize, Option<(u32, i32, i32)>);
-
-fn check_rows(rt: &impl Abort, store: &Chained, readings: &[Reading]) {
-    for (table, place, expected) in readings {
-        let row = match store.row(*table, *place) {
-            Some(row) => Some((row.key, row.first, row.second)),
-            None => None,
-        };
-        assert_eq!(rt; row, *expected);
-    }
-}
-
 #[test]
 fn starts_empty(rt: HostRuntime) -> Result<(), Fail> {
-    let mut cells = [GARBAGE; 4];
+    let mut cells = [CELL; 4];
     let store = Chained::new(Plan::of(&[1, 3])?, &mut cells);
     assert_eq!(rt; store.table_count(), 2);
     assert_eq!(rt; store.row_count(0), Some(0));
@@ -56,21 +23,21 @@ fn starts_empty(rt: HostRuntime) -> Result<(), Fail> {
 
 #[test]
 fn fills_to_the_limits(rt: HostRuntime) -> Result<(), Fail> {
-    let mut cells = [GARBAGE; 4];
+    let mut cells = [CELL; 4];
     let mut store = Chained::new(Plan::of(&[2, 0, 1, 0, 0, 0, 0, 1])?, &mut cells);
     check_adds(
         &rt,
         &mut store,
         &[
-            (2, 30, Ok(1)),
-            (0, 10, Ok(1)),
-            (7, 80, Ok(1)),
-            (0, 20, Ok(2)),
-            (0, 0, Err(12)),
-            (1, 0, Err(12)),
-            (2, 0, Err(12)),
-            (7, 0, Err(12)),
-            (8, 0, Err(3)),
+            (2, 30, -1, Ok(1)),
+            (0, 10, -1, Ok(1)),
+            (7, 80, -1, Ok(1)),
+            (0, 20, -1, Ok(2)),
+            (0, 0, -1, Err(12)),
+            (1, 0, -1, Err(12)),
+            (2, 0, -1, Err(12)),
+            (7, 0, -1, Err(12)),
+            (8, 0, -1, Err(3)),
         ],
     );
     check_rows(
@@ -88,12 +55,12 @@ fn fills_to_the_limits(rt: HostRuntime) -> Result<(), Fail> {
 
 #[test]
 fn one_cell(rt: HostRuntime) -> Result<(), Fail> {
-    let mut cells = [GARBAGE; 1];
+    let mut cells = [CELL; 1];
     let mut store = Chained::new(Plan::of(&[0, 1])?, &mut cells);
-    check_adds(&rt, &mut store, &[(1, 10, Ok(1)), (1, 0, Err(12))]);
+    check_adds(&rt, &mut store, &[(1, 10, -1, Ok(1)), (1, 0, -1, Err(12))]);
     assert!(rt; store.remove(1, 0));
     assert!(rt; !store.remove(1, 0));
-    check_adds(&rt, &mut store, &[(0, 0, Err(12)), (1, 20, Ok(2))]);
+    check_adds(&rt, &mut store, &[(0, 0, -1, Err(12)), (1, 20, -1, Ok(2))]);
     assert!(rt; store.replace(1, 0, 21, 22));
     check_rows(&rt, &store, &[(1, 0, Some((2, 21, 22))), (1, 1, None)]);
     Ok(())
@@ -102,21 +69,21 @@ fn one_cell(rt: HostRuntime) -> Result<(), Fail> {
 // A cell that one table frees is the next that the other takes.
 #[test]
 fn tables_take_turns(rt: HostRuntime) -> Result<(), Fail> {
-    let mut cells = [GARBAGE; 5];
+    let mut cells = [CELL; 5];
     let mut store = Chained::new(Plan::of(&[3, 2])?, &mut cells);
     check_adds(
         &rt,
         &mut store,
-        &[(0, 10, Ok(1)), (0, 20, Ok(2)), (0, 30, Ok(3))],
+        &[(0, 10, -1, Ok(1)), (0, 20, -1, Ok(2)), (0, 30, -1, Ok(3))],
     );
     assert!(rt; store.remove(0, 1));
-    check_adds(&rt, &mut store, &[(1, 40, Ok(1)), (1, 50, Ok(2))]);
+    check_adds(&rt, &mut store, &[(1, 40, -1, Ok(1)), (1, 50, -1, Ok(2))]);
     assert!(rt; store.remove(0, 1));
     assert!(rt; store.remove(1, 0));
     check_adds(
         &rt,
         &mut store,
-        &[(0, 60, Ok(4)), (0, 70, Ok(5)), (1, 80, Ok(3))],
+        &[(0, 60, -1, Ok(4)), (0, 70, -1, Ok(5)), (1, 80, -1, Ok(3))],
     );
     assert!(rt; store.remove(0, 0));
     assert!(rt; !store.remove(0, 2));
@@ -135,23 +102,6 @@ fn tables_take_turns(rt: HostRuntime) -> Result<(), Fail> {
     Ok(())
 }
 
-// Removes the rows with an even key, and rewrites the third.
-struct Thinning;
-
-impl Edit for Thinning {
-    ghost decides = { λ _ r. (if nat_eq (r.key % 2) 0 then Remove else (if nat_eq r.key 3 then Rewrite (pos 7) (pos 8) else Keep)) };
-
-    fn decide(&self, row: Row) -> Fate {
-        if row.key % 2 == 0 {
-            Fate::Remove
-        } else if row.key == 3 {
-            Fate::Rewrite(7, 8)
-        } else {
-            Fate::Keep
-        }
-    }
-}
-
 // The key of the last row that was visited.
 #[derive(Drop)]
 struct LastKey {
@@ -168,21 +118,21 @@ impl Visit for LastKey {
 
 #[test]
 fn sweep_and_walk(rt: HostRuntime) -> Result<(), Fail> {
-    let mut cells = [GARBAGE; 8];
+    let mut cells = [CELL; 8];
     let mut store = Chained::new(Plan::of(&[4, 2])?, &mut cells);
     check_adds(
         &rt,
         &mut store,
         &[
-            (0, 10, Ok(1)),
-            (1, 60, Ok(1)),
-            (0, 20, Ok(2)),
-            (0, 30, Ok(3)),
-            (0, 40, Ok(4)),
+            (0, 10, -1, Ok(1)),
+            (1, 60, -1, Ok(1)),
+            (0, 20, -1, Ok(2)),
+            (0, 30, -1, Ok(3)),
+            (0, 40, -1, Ok(4)),
         ],
     );
     assert_eq!(rt; store.sweep(0, &Thinning), 3);
-    check_adds(&rt, &mut store, &[(1, 70, Ok(2)), (0, 50, Ok(5))]);
+    check_adds(&rt, &mut store, &[(1, 70, -1, Ok(2)), (0, 50, -1, Ok(5))]);
     check_rows(
         &rt,
         &store,
