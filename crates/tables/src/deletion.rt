@@ -13,14 +13,14 @@ use stores::Store;
 
 // The end of a deletion, once the label is raised.
 fn delete_at<L: Label, S: Store>(
-    label: L,
-    record: TableRecord<L>,
+    entry: Entry<L>,
     store: &mut S,
     table: usize,
     predicate: Predicate,
 ) -> Result<usize, Refusal<L>>
-    ensures { changed result (S.Store.tables store.new) ≡ deleting_at L.Label.kind label «record» (S.Store.tables store.old) table predicate }
+    ensures { changed result (S.Store.tables store.new) ≡ deleting_at L.Label.kind entry.label entry.«record» (S.Store.tables store.old) table predicate }
 {
+    let Entry { label, record } = entry;
     let query = query_label(store, table, record.second, predicate.second);
     if !query.flows_to(record.table) {
         return Err(Refusal::QueryAboveTarget(label));
@@ -42,7 +42,8 @@ fn delete_on<L: Label, S: Store>(
         return Err(Refusal::LabelAboveTarget(label));
     }
     session.raise(record.table)?;
-    delete_at(label.join(record.table), record, store, table, predicate)
+    let label = label.join(record.table);
+    delete_at(Entry { label, record }, store, table, predicate)
 }
 
 // Every matching row of a table is removed; their number is answered.

@@ -22,15 +22,15 @@ fn labelled<L: Label>(label: L, refusal: AddRefusal) -> Refusal<L>
 
 // The end of an insertion, once the label is raised.
 fn insert_at<L: Label, S: Store>(
-    label: L,
-    record: TableRecord<L>,
+    entry: Entry<L>,
     store: &mut S,
     table: usize,
     first: Sealed<L>,
     second: Sealed<L>,
 ) -> Result<u32, Refusal<L>>
-    ensures { changed result (S.Store.tables store.new) ≡ inserting_at L.Label.kind label «record» (S.Store.tables store.old) table first second }
+    ensures { changed result (S.Store.tables store.new) ≡ inserting_at L.Label.kind entry.label entry.«record» (S.Store.tables store.old) table first second }
 {
+    let Entry { label, record } = entry;
     if !second
         .label()
         .flows_to(record.second.label_of(first.host_value()))
@@ -60,14 +60,8 @@ fn insert_on<L: Label, S: Store>(
         return Err(Refusal::FirstAboveField(label));
     }
     session.raise(record.table)?;
-    insert_at(
-        label.join(record.table),
-        record,
-        store,
-        table,
-        first,
-        second,
-    )
+    let label = label.join(record.table);
+    insert_at(Entry { label, record }, store, table, first, second)
 }
 
 // A row of two sealed values is added to a table; its key is answered.

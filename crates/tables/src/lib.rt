@@ -1,4 +1,5 @@
 // Table records, predicates, and the requests on tables. Nothing here names a label kind or a store.
+// Sessions, records and store are lent one by one: a selection is lent its store by `&`.
 #![tactic(auto)]
 
 mod deletion;

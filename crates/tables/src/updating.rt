@@ -14,16 +14,16 @@ use stores::Store;
 // The end of an update, once the label is raised.
 fn update_at<L: Label, S: Store>(
     before: L,
-    label: L,
-    record: TableRecord<L>,
+    entry: Entry<L>,
     store: &mut S,
     table: usize,
     predicate: Predicate,
     first: Sealed<L>,
     second: Sealed<L>,
 ) -> Result<usize, Refusal<L>>
-    ensures { changed result (S.Store.tables store.new) ≡ updating_at L.Label.kind before label «record» (S.Store.tables store.old) table predicate first second }
+    ensures { changed result (S.Store.tables store.new) ≡ updating_at L.Label.kind before entry.label entry.«record» (S.Store.tables store.old) table predicate first second }
 {
+    let Entry { label, record } = entry;
     let query = query_label(store, table, record.second, predicate.second);
     if !query.flows_to(record.first) {
         return Err(Refusal::QueryAboveTarget(label));
@@ -52,24 +52,20 @@ fn update_on<L: Label, S: Store>(
 ) -> Result<usize, Refusal<L>>
     ensures { wrote result session.new (S.Store.tables store.new) ≡ updating L.Label.kind records.now (S.Store.tables store.old) table predicate first second session.old }
 {
-    let Entry { label, record } = enter(session, records, store, table)?;
-    if !label.flows_to(record.first) {
-        return Err(Refusal::LabelAboveTarget(label));
+    let Entry {
+        label: before,
+        record,
+    } = enter(session, records, store, table)?;
+    if !before.flows_to(record.first) {
+        return Err(Refusal::LabelAboveTarget(before));
     }
     if !first.label().flows_to(record.first) {
-        return Err(Refusal::FirstAboveField(label));
+        return Err(Refusal::FirstAboveField(before));
     }
     session.raise(record.table)?;
-    update_at(
-        label,
-        label.join(record.table),
-        record,
-        store,
-        table,
-        predicate,
-        first,
-        second,
-    )
+    let label = before.join(record.table);
+    let entry = Entry { label, record };
+    update_at(before, entry, store, table, predicate, first, second)
 }
 
 // Every matching row of a table gets both sealed values and keeps its key; the number of those rows is answered.
