@@ -1,4 +1,5 @@
-// The cells lent to a store, and the steps along their links.
+// The cells lent to a store, and the steps along their links. A row has no place of its own in the list, so a walk, a pass and
+// a look-up count their steps.
 ghost use Rattle.std.specs.Prelude.{◌≡◌, ◌<◌, ◌≤◌, length, fold, ◌≢◌, MatchOption, slice_get};
 ghost use Rattle.stores.specs.Changes.{adding, replacing, removing, sweeping};
 ghost use Rattle.chained.specs.Links.{links, rows_of_chain, used};
@@ -8,7 +9,8 @@ ghost use Rattle.chained.specs.Steps.{Alone, Appended, Found, Inside, LedOn, Lin
 use crate::links::{Cell, Chain, Free, Spot};
 use stores::{AddRefusal, Edit, Fate, Row, Visit};
 
-// Apart from the store, whose invariant would stand in the way of writing a cell.
+// Apart from the store, whose invariant would stand in the way of writing a cell. What links cells and chain is required of
+// each change, since no struct can hold both where each is lent from behind a reference.
 #[derive(Drop)]
 pub struct Lent<'a> {
     pub cells: &'a mut [Cell],

@@ -5,7 +5,8 @@ ghost use Rattle.packed.specs.Stretches.{Alone, held};
 
 use stores::{AddRefusal, Edit, Fate, Row};
 
-// How many rows of a stretch are used, and how many keys were given in it.
+// How many rows of a stretch are used, and how many keys were given in it. That they lie within its rows is required of each
+// change: a struct of both would keep from its caller what the rows hold afterwards.
 #[derive(Clone, Copy, Default)]
 pub struct Fill {
     pub used: usize,

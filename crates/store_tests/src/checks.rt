@@ -12,7 +12,7 @@ pub const GARBAGE: Row = Row {
     second: 7,
 };
 
-// A table, the values of a row to add to it, and the key given or the number of the refusal.
+// A table, the values of a row to add to it, and the key given or the refusal, by its number in docs/MODEL.md.
 pub type Adding = (usize, i32, i32, Result<u32, u8>);
 
 pub fn check_adds<S: Store>(rt: &impl Abort, store: &mut S, adds: &[Adding]) {

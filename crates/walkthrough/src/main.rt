@@ -7,6 +7,7 @@ mod show;
 #[cfg(test)]
 mod tests;
 
+use labels::Rung;
 use monitor::Answer;
 use packed::Packed;
 use play::Host;
@@ -14,9 +15,10 @@ use rung_cases::{Ask, Request, blank_place, standing_of};
 use rung_requests::example;
 use rung_requests::predicates::{ALL, KEY_1, LOW_SECONDS};
 use sessions::Session;
-use show::{Answered, Reply, Standing};
+use show::{Reply, Standing};
 use stores::{Plan, Row};
 use tables::{Predicate, Range};
+use wording::show as shown;
 
 const MIDDLE_SECONDS: Predicate = Predicate {
     second: Some(Range {
@@ -72,7 +74,7 @@ fn play_all(rt: &HostRuntime, host: &mut Host, requests: &[Request]) -> anyhow::
         println!(rt; "{standing}  {request} -> {}", Reply(ask, answer))?;
         if let Ok(Answer::Filled(count)) = answer {
             for place in host.places.iter().take(count) {
-                println!(rt; "                    {}", Answered(*place))?;
+                println!(rt; "                    {}", shown::<Rung, _>(*place))?;
             }
         }
     }
