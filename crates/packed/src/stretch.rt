@@ -7,7 +7,8 @@ use crate::fill::Fill;
 use std::ops::Range;
 use stores::{AddRefusal, Edit, Row};
 
-// Where a stretch lies in the lent rows, and how far it is filled.
+// Where a stretch lies in the lent rows, and how far it is filled. That its table is sound there is required of each change:
+// the rows are the store's, and a struct of both could not be made of a part of them.
 #[derive(Clone, Copy, Default)]
 pub struct Stretch {
     pub from: usize,

@@ -19,6 +19,7 @@ pub trait Store {
     fn row(&self, table: usize, place: usize) -> Option<Row>
         ensures { result ≡ row_at (tables self.now) table place };
 
+    // The values of a row's two fields are two parameters throughout: a pair would be made at each call to be taken apart there.
     fn add(&mut self, table: usize, first: i32, second: i32) -> Result<u32, AddRefusal>
         ensures change { changed result (tables self.new) ≡ adding (tables self.old) table first second }
         ensures limits { SameLimits (tables self.old) (tables self.new) };

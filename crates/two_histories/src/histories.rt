@@ -94,7 +94,8 @@ pub fn right_requests() -> [Request<Rung>; 16]
     ]
 }
 
-// Both histories are played from the start. Events and places suffice, and the observer sees the same of both.
+// Both histories are played from the start. Events and places suffice, and the observer sees the same of both. They are lent as
+// arrays and not as sides, since the length of an array says that they suffice.
 pub fn play_both<S: Store, T: Store>(
     left: &mut [Session<Rung>],
     left_store: &mut S,

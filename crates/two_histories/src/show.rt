@@ -1,4 +1,5 @@
-// What an observer sees, in words: of each request that was served, and of the sessions and tables at the end.
+// What an observer sees, in words: of each request that was served, and of the sessions and tables at the end. These are texts,
+// since those of both histories are compared.
 use guarantees::{
     EventView, SessionView, TableView, view_event, view_place, view_request, view_row,
     view_session, view_table,
