@@ -1,4 +1,7 @@
 // What a case expects, and playing cases.
+ghost use Rattle.std.specs.Prelude.{◌≡◌};
+ghost use Rattle.rung_cases.specs.Cases.{numbers_of, numbers_at};
+
 use crate::requests::Request;
 use labels::{Rung, UnlawfulLabel};
 use monitor::{Answer, ShortBuffer};
@@ -71,11 +74,15 @@ pub type Outcome = (Expected, Option<(u8, u8)>);
 pub type Case = (Request, Expected, Option<(u8, u8)>);
 
 // The label and the clearance of an open session.
-pub fn numbers(standing: Standing<Rung>) -> (u8, u8) {
+pub fn numbers(standing: Standing<Rung>) -> (u8, u8)
+    ensures { result ≡ numbers_of standing }
+{
     (standing.label().number(), standing.clearance().number())
 }
 
-pub fn standing_of(sessions: &[Session<Rung>], session: usize) -> Option<(u8, u8)> {
+pub fn standing_of(sessions: &[Session<Rung>], session: usize) -> Option<(u8, u8)>
+    ensures { result ≡ numbers_at sessions.now session }
+{
     sessions.get(session)?.standing().map(numbers)
 }
 
