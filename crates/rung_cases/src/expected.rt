@@ -1,6 +1,6 @@
 // What a case expects, and playing cases.
 ghost use Rattle.std.specs.Prelude.{◌≡◌};
-ghost use Rattle.rung_cases.specs.Cases.{numbers_of, numbers_at};
+ghost use Rattle.rung_cases.specs.Cases.{numbers_of, numbers_at, Plays};
 
 use crate::requests::Request;
 use labels::{Rung, UnlawfulLabel};
@@ -99,6 +99,7 @@ pub struct Mismatch {
 // Asks for what each case asks, one after another, up to the first that comes out otherwise.
 pub fn play<F: FnMut(Request) -> Outcome>(cases: &[Case], mut serve: F) -> Result<(), Mismatch>
     requires { F.IsAlwaysCallable serve }
+    ensures { Plays F.step serve cases.now result }
 {
     for (number, (request, answer, standing)) in cases.iter().enumerate() {
         let expected = (*answer, *standing);
