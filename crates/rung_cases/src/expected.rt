@@ -1,4 +1,7 @@
 // What a case expects, and playing cases.
+ghost use Rattle.std.specs.Prelude.{◌≡◌};
+ghost use Rattle.rung_cases.specs.Cases.{numbers_of, numbers_at, Plays};
+
 use crate::requests::Request;
 use labels::{Rung, UnlawfulLabel};
 use monitor::{Answer, ShortBuffer};
@@ -71,11 +74,15 @@ pub type Outcome = (Expected, Option<(u8, u8)>);
 pub type Case = (Request, Expected, Option<(u8, u8)>);
 
 // The label and the clearance of an open session.
-pub fn numbers(standing: Standing<Rung>) -> (u8, u8) {
+pub fn numbers(standing: Standing<Rung>) -> (u8, u8)
+    ensures { result ≡ numbers_of standing }
+{
     (standing.label().number(), standing.clearance().number())
 }
 
-pub fn standing_of(sessions: &[Session<Rung>], session: usize) -> Option<(u8, u8)> {
+pub fn standing_of(sessions: &[Session<Rung>], session: usize) -> Option<(u8, u8)>
+    ensures { result ≡ numbers_at sessions.now session }
+{
     sessions.get(session)?.standing().map(numbers)
 }
 
@@ -92,6 +99,7 @@ pub struct Mismatch {
 // Asks for what each case asks, one after another, up to the first that comes out otherwise.
 pub fn play<F: FnMut(Request) -> Outcome>(cases: &[Case], mut serve: F) -> Result<(), Mismatch>
     requires { F.IsAlwaysCallable serve }
+    ensures { Plays F.step serve cases.now result }
 {
     for (number, (request, answer, standing)) in cases.iter().enumerate() {
         let expected = (*answer, *standing);

@@ -1,8 +1,12 @@
 // Requests as a person writes them, with labels as numbers.
+ghost use Rattle.std.specs.Prelude.{◌≡◌};
+ghost use Rattle.rung_cases.specs.Asked.{sealed_under, ask_of, request_of};
+
 use labels::{Rung, UnlawfulLabel};
 use sessions::Sealed;
 use std::fmt;
-use tables::{Predicate, Range};
+use tables::Predicate;
+use wording::Ranges;
 
 // What is asked of a session: opening from a label to a clearance, raising to a label, lowering the clearance to a label,
 // sealing a value under a label, unsealing what a label seals; and of a table of a number: selecting with so many places,
@@ -25,12 +29,16 @@ pub enum Ask {
 pub struct Request(pub usize, pub Ask);
 
 // A value sealed under the label of a number, where the number makes one.
-pub fn sealed(label: u64, value: i32) -> Result<Sealed<Rung>, UnlawfulLabel> {
+pub fn sealed(label: u64, value: i32) -> Result<Sealed<Rung>, UnlawfulLabel>
+    ensures { result ≡ sealed_under label value }
+{
     Ok(Sealed::new(Rung::new(label)?, value))
 }
 
 impl TryFrom<Ask> for monitor::Ask<Rung> {
     type Error = UnlawfulLabel;
+
+    ghost try_from_gives = { λ ask result. result ≡ ask_of ask };
 
     fn try_from(ask: Ask) -> Result<monitor::Ask<Rung>, UnlawfulLabel> {
         Ok(match ask {
@@ -56,26 +64,12 @@ impl TryFrom<Ask> for monitor::Ask<Rung> {
 impl TryFrom<Request> for monitor::Request<Rung> {
     type Error = UnlawfulLabel;
 
+    ghost try_from_gives = { λ request result. result ≡ request_of request };
+
     fn try_from(request: Request) -> Result<monitor::Request<Rung>, UnlawfulLabel> {
         let Request(session, ask) = request;
         let ask = ask.try_into()?;
         Ok(monitor::Request { session, ask })
-    }
-}
-
-// The ranges of a predicate, each after the name of its field.
-#[derive(Clone, Copy)]
-struct Ranges(Predicate);
-
-impl fmt::Display for Ranges {
-    fn fmt<W: fmt::Write>(&self, f: &mut fmt::Formatter<W>) -> fmt::Result {
-        let Ranges(Predicate { key, first, second }) = *self;
-        for (field, range) in [("key", key), ("first", first), ("second", second)] {
-            if let Some(Range { low, high }) = range {
-                write!(f, ", {field} {low} to {high}")?;
-            }
-        }
-        Ok(())
     }
 }
 

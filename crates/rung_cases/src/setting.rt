@@ -1,10 +1,16 @@
 // The records that the cases are played on, and rows as they are answered.
+ghost use Rattle.std.specs.Prelude.{◌≡◌};
+ghost use Rattle.labels.specs.Rung.{own};
+ghost use Rattle.rung_cases.specs.Setting.{case_records, blank};
+
 use labels::Rung;
 use rung_requests::{rung, sealed};
 use sessions::Sealed;
 use tables::{Place, SecondRule, TableRecord};
 
-fn record(table: i32, first: i32, second: SecondRule<Rung>) -> TableRecord<Rung> {
+fn record(table: i32, first: i32, second: SecondRule<Rung>) -> TableRecord<Rung>
+    ensures { result ≡ record { table = own table; first = own first; second = second } }
+{
     TableRecord {
         table: rung(table),
         first: rung(first),
@@ -13,7 +19,9 @@ fn record(table: i32, first: i32, second: SecondRule<Rung>) -> TableRecord<Rung>
 }
 
 // The cases are played on a store with tables 0 to 4; record 5 has no table.
-pub fn records() -> [TableRecord<Rung>; 6] {
+pub fn records() -> [TableRecord<Rung>; 6]
+    ensures { result ≡ case_records }
+{
     [
         record(2, 1, SecondRule::Own),
         record(0, 0, SecondRule::Fixed(rung(5))),
@@ -24,11 +32,15 @@ pub fn records() -> [TableRecord<Rung>; 6] {
     ]
 }
 
-pub fn place(key: u32, first: Sealed<Rung>, second: Sealed<Rung>) -> Place<Rung> {
+pub fn place(key: u32, first: Sealed<Rung>, second: Sealed<Rung>) -> Place<Rung>
+    ensures { result ≡ record { key = key; first = first; second = second } }
+{
     Place { key, first, second }
 }
 
 // A place as it is lent, with values that no selection writes there.
-pub fn blank_place() -> Place<Rung> {
+pub fn blank_place() -> Place<Rung>
+    ensures { result ≡ blank }
+{
     place(99, sealed(0, -1), sealed(0, -1))
 }

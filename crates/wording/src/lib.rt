@@ -1,6 +1,8 @@
 // Requests, answers and what sessions and rows hold, in words for a person. Nothing here names a label kind.
 #![tactic(auto)]
 
+ghost use Rattle.std.specs.Prelude.{◌≡◌};
+
 use labels::Label;
 use monitor::{Answer, Ask, Request};
 use sessions::{Refusal, Sealed, Standing};
@@ -14,14 +16,18 @@ pub struct Shown<L, T> {
     item: T,
 }
 
-pub fn show<L, T>(item: T) -> Shown<L, T> {
+pub fn show<L, T>(item: T) -> Shown<L, T>
+    ensures { result ≡ record { observer = None; item = item } }
+{
     Shown {
         observer: None,
         item,
     }
 }
 
-pub fn show_to<L, T>(observer: L, item: T) -> Shown<L, T> {
+pub fn show_to<L, T>(observer: L, item: T) -> Shown<L, T>
+    ensures { result ≡ record { observer = Some observer; item = item } }
+{
     Shown {
         observer: Some(observer),
         item,
@@ -40,7 +46,7 @@ impl<L: Label, T> Shown<L, T> {
 
 // The ranges of a predicate that are present, with a comma before each.
 #[derive(Clone, Copy)]
-struct Ranges(Predicate);
+pub struct Ranges(pub Predicate);
 
 impl fmt::Display for Ranges {
     fn fmt<W: fmt::Write>(&self, f: &mut fmt::Formatter<W>) -> fmt::Result {
