@@ -8,7 +8,8 @@ use monitor::{Answer, ShortBuffer};
 use sessions::{Refusal, Session, Standing};
 use thiserror::Error;
 
-// What is expected of a request. A refusal has its number and, where one is returned, the label as left.
+// What is expected of a request. A refusal has its number in docs/MODEL.md, and not a name of the code, and, where one is
+// returned, the label as left.
 #[derive(Clone, Copy, PartialEq, Eq, Debug)]
 pub enum Expected {
     Done,
