@@ -9,8 +9,8 @@ ghost use Rattle.chained.specs.Steps.{Alone, Appended, Found, Inside, LedOn, Lin
 use crate::links::{Cell, Chain, Free, Spot};
 use stores::{AddRefusal, Edit, Fate, Row, Visit};
 
-// Apart from the store, whose invariant would stand in the way of writing a cell. What links cells and chain is required of
-// each change, since no struct can hold both where each is lent from behind a reference.
+// Apart from the store, whose invariant would stand in the way of writing a cell. That a chain lies in the cells and what
+// links both is required of each method, since no struct can hold both where each is lent from behind a reference.
 #[derive(Drop)]
 pub struct Lent<'a> {
     pub cells: &'a mut [Cell],

@@ -1,10 +1,11 @@
-// Cells that are linked by their numbers, and the chains that they form.
+// Cells that are linked by their numbers in the list that is lent, as this store's cells have to be, and the chains that they
+// form.
 ghost use Rattle.std.specs.Prelude.{◌≡◌};
 
 use stores::Row;
 
 // A row, and the number of the cell that comes after it.
-#[derive(Clone, Copy)]
+#[derive(Clone, Copy, PartialEq, Eq, Debug, Default)]
 pub struct Cell {
     pub row: Row,
     pub next: usize,

@@ -6,6 +6,6 @@ mod views;
 
 pub use comparison::{Side, serve_both};
 pub use views::{
-    EventView, SessionView, TableView, view_answer, view_event, view_place, view_request, view_row,
-    view_sealed, view_session, view_table,
+    EventView, SessionView, TableView, view_answer, view_event, view_place, view_request,
+    view_result, view_row, view_sealed, view_session, view_table,
 };

@@ -105,7 +105,8 @@ fn is_low<L: Label>(observer: L, standing: Option<Standing<L>>) -> bool
     }
 }
 
-fn view_result<L: Label>(
+// A refusal stays as it is.
+pub fn view_result<L: Label>(
     observer: L,
     res: Result<Answer<L>, Refusal<L>>,
 ) -> Result<Answer<L>, Refusal<L>>

@@ -19,15 +19,10 @@ fn is_smallest(word: u64, set: u32) -> bool
 }
 
 fn write_parties<W: fmt::Write>(f: &mut fmt::Formatter<W>, set: u32) -> fmt::Result {
-    let mut more = false;
-    for party in 0..6 {
-        if has_bit(set as u64, party) {
-            if more {
-                f.write_str("&")?;
-            }
-            write!(f, "{party}")?;
-            more = true;
-        }
+    let parties = (0..6).filter(|party| has_bit(u64::from(set), *party));
+    for (i, party) in parties.enumerate() {
+        let between = if i == 0 { "" } else { "&" };
+        write!(f, "{between}{party}")?;
     }
     Ok(())
 }
@@ -40,15 +35,11 @@ impl fmt::Display for Formula {
         if has_bit(self.word, 0) {
             return f.write_str("always");
         }
-        let mut more = false;
-        for set in 1..64 {
-            if is_smallest(self.word, set) {
-                if more {
-                    f.write_str(" | ")?;
-                }
-                write_parties(f, set)?;
-                more = true;
-            }
+        let sets = (1..64).filter(|set| is_smallest(self.word, *set));
+        for (i, set) in sets.enumerate() {
+            let between = if i == 0 { "" } else { " | " };
+            write!(f, "{between}")?;
+            write_parties(f, set)?;
         }
         Ok(())
     }

@@ -10,7 +10,7 @@ use thiserror::Error;
 // What is asked of a session: opening from a label to a clearance, raising to a label, lowering the clearance to a label,
 // sealing a value under a label, unsealing; and, on the table of a number, selecting by a predicate into so many places,
 // inserting a first and a second value, deleting by a predicate, updating by a predicate to a first and a second value.
-#[derive(Clone, Copy)]
+#[derive(Clone, Copy, PartialEq, Eq, Debug)]
 pub enum Ask<L> {
     Open(L, L),
     Raise(L),
@@ -36,7 +36,7 @@ impl<L: Label> Ask<L> {
 }
 
 // The number of a session, and what is asked of it.
-#[derive(Clone, Copy)]
+#[derive(Clone, Copy, PartialEq, Eq, Debug)]
 pub struct Request<L> {
     pub session: usize,
     pub ask: Ask<L>,

@@ -219,6 +219,7 @@ impl<L: Label> Session<L> {
 }
 
 // The five requests on a list look their session up by index: what a slice holds after a `get_mut` is not known to a proof.
+// Sealing changes none, and does as the others do.
 
 // The host opens a session, whether or not it was open.
 pub fn open<L: Label>(

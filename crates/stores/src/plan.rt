@@ -17,7 +17,7 @@ impl LayoutRefusal {
 }
 
 // The limits of at most 8 tables, for exactly N lent rows: a store over a plan never lacks a row.
-// An array with its count and no ArrayVec, which is not `Copy`: one plan lays out as many stores as its holder wants.
+// An array with its count: an ArrayVec is not `Copy`, and who holds a plan may lay out as many stores by it as he wants.
 #[derive(Clone, Copy)]
 pub struct Plan<const N: usize> {
     pub(crate) limits: [usize; 8],

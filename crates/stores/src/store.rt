@@ -42,7 +42,8 @@ pub trait Store {
         }
     }
 
-    // Every row of a table is kept, rewritten or removed; answers how many were rewritten or removed.
+    // Every row of a table is kept, rewritten or removed; answers how many were rewritten or removed. It goes by places too, from
+    // the last to the first, so that a removal moves no row that is still to come.
     fn sweep<E: Edit>(&mut self, table: usize, editor: &E) -> usize
         ensures change { changed result (tables self.new) ≡ sweeping (E.Edit.decides editor.now) (tables self.old) table }
         ensures limits { SameLimits (tables self.old) (tables self.new) }

@@ -1,5 +1,6 @@
 // Table records, predicates, and the requests on tables. Nothing here names a label kind or a store.
-// Sessions, records and store are lent one by one: a selection is lent its store by `&`.
+// Sessions, records and store are lent one by one: a selection is lent its store by `&`. A session is looked up by index, as in
+// `sessions`.
 #![tactic(auto)]
 
 mod deletion;
