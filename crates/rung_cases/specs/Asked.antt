@@ -17,11 +17,11 @@ abbrev pub given : {A B E : Type 0} → Result A E → (A → Result B E) → Re
 given (Ok a) make = make a
 given (Err e) make = Err e
 
--- A value is sealed under the rung of a number, if the number makes one.
+-- A value is sealed under the rung of a number, unless the number makes none.
 abbrev pub sealed_under : ℕ → ℤ → Result (Sealed Rung) UnlawfulLabel
 sealed_under a v = given (made a) (λ r. Ok (sealed_value r v))
 
--- The same is asked of a monitor, if each number makes a label.
+-- The same is asked of a monitor, unless a number makes no label.
 abbrev pub ask_of : Ask → Result (MonitorAsk Rung) UnlawfulLabel
 ask_of (Open a b) = given (made a) (λ c. given (made b) (λ d. Ok (OpenOf c d)))
 ask_of (Raise a) = given (made a) (λ c. Ok (RaiseOf c))

@@ -7,7 +7,7 @@ use Rattle.tables.specs.declared.records.SecondRule.TheVariants.{Fixed, Own, Mee
 use Rattle.tables.specs.declared.records.TableRecord.{TableRecord}
 use Rattle.rung_requests.specs.Requests.{under}
 
--- Each record has the label of its table, the label of first fields, and the rule for second fields.
+-- Each record has the label of its table, the label of its first fields, and the rule for its second fields.
 abbrev pub case_records : List (TableRecord Rung)
 case_records =
     record { table = rung 2; first = rung 1; second = Own }

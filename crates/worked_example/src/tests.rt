@@ -8,7 +8,7 @@ use rung_cases::cases::{
     SELECTING, UPDATED_AND_READ, UPDATING, UPDATING_BY_EACH_RULE, WITH_ONE_RECORD,
 };
 use rung_cases::{
-    Case, Mismatch, Request, blank_place, numbers, place, play, records, standing_of,
+    Case, Mismatch, Outcome, Request, blank_place, numbers, place, play, records, standing_of,
 };
 use rung_requests::predicates::ALL;
 use rung_requests::sealed;
@@ -18,17 +18,24 @@ use std::test::Fail;
 use stores::{Plan, Row, Store};
 use tables::Place;
 
+fn outcome(
+    monitor: &mut Monitor<Rung, Packed>,
+    places: &mut [Place<Rung>],
+    request: Request,
+) -> Outcome {
+    let answer = match monitor::Request::try_from(request) {
+        Ok(asked) => monitor.serve(asked, places).into(),
+        Err(unlawful) => unlawful.into(),
+    };
+    (answer, standing_of(monitor.sessions, request.0))
+}
+
 fn plays_each(
     monitor: &mut Monitor<Rung, Packed>,
     places: &mut [Place<Rung>],
     cases: &[Case],
 ) -> Result<(), Mismatch> {
-    play(cases, |request| {
-        let answer = monitor::Request::try_from(request).map(|request| monitor.serve(
-            request, places,
-        ));
-        (answer.into(), standing_of(monitor.sessions, request.0))
-    })
+    play(cases, |request| outcome(monitor, places, request))
 }
 
 fn plays_on(store: &mut Packed, cases: &[Case]) -> Result<(), Fail> {
@@ -241,8 +248,8 @@ fn a_list_with_just_enough_room(rt: HostRuntime) -> Result<(), Fail> {
         ]
     );
     assert_eq!(rt; events[0].before, None);
-    assert_eq!(rt; events[1].before.map(numbers), Some((0, 7)));
-    assert_eq!(rt; events[1].after.map(numbers), Some((2, 7)));
+    assert_eq!(rt; events[1].before.map(|at| numbers(at)), Some((0, 7)));
+    assert_eq!(rt; events[1].after.map(|at| numbers(at)), Some((2, 7)));
     assert_eq!(rt;
         places,
         [
