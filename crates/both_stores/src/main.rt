@@ -14,7 +14,7 @@ use labels::Rung;
 use monitor::{Answer, Event, Monitor, Request};
 use packed::Packed;
 use rung_requests::predicates::ALL;
-use rung_requests::{delete, example, insert, open, rung, sealed};
+use rung_requests::{delete, example, insert, open, rung, sealed, table_record};
 use sessions::Session;
 use std::alloc::Global;
 use stores::{Plan, Row, Store};
@@ -37,19 +37,11 @@ fn all_records() -> [TableRecord<Rung>; 6] {
     [
         wells,
         notes,
-        record(2, 2, SecondRule::Meet(rung(4))),
-        record(3, 1, SecondRule::Join(rung(2))),
-        record(1, 3, SecondRule::Own),
-        record(0, 0, SecondRule::Own),
+        table_record(2, 2, SecondRule::Meet(rung(4))),
+        table_record(3, 1, SecondRule::Join(rung(2))),
+        table_record(1, 3, SecondRule::Own),
+        table_record(0, 0, SecondRule::Own),
     ]
-}
-
-fn record(table: i32, first: i32, second: SecondRule<Rung>) -> TableRecord<Rung> {
-    TableRecord {
-        table: rung(table),
-        first: rung(first),
-        second,
-    }
 }
 
 // For a table that has one key left.

@@ -3,13 +3,8 @@ use crate::expected::Case;
 use crate::expected::Expected::{Changed, Done, FewPlaces, Key, Refused, Rows, Sealed, Value};
 use crate::requests::Ask::{Delete, Insert, Lower, Open, Raise, Seal, Select, Unseal, Update};
 use crate::requests::Request;
-use rung_requests::predicates::{ALL, LOW_SECONDS};
+use rung_requests::predicates::{ALL, KEY_2, LOW_SECONDS};
 use tables::{Predicate, Range};
-
-const KEY_2: Predicate = Predicate {
-    key: Some(Range { low: 2, high: 2 }),
-    ..ALL
-};
 
 const KEY_UP_TO_1: Predicate = Predicate {
     key: Some(Range { low: -5, high: 1 }),

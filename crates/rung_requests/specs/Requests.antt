@@ -1,9 +1,11 @@
 -- The parts of a request with rung labels. Assumes nothing.
 use Rattle.std.specs.Prelude.{ℕ, ℤ, pos, neg_ℤ, Some, None, Option}
 use Rattle.labels.specs.declared.Rung.{Rung}
-use Rattle.labels.specs.Rung.{rung}
+use Rattle.labels.specs.Rung.{rung, own}
 use Rattle.sessions.specs.declared.Sealed.{Sealed}
 use Rattle.sessions.specs.Steps.{sealed_value}
+use Rattle.tables.specs.declared.records.SecondRule.{SecondRule}
+use Rattle.tables.specs.declared.records.TableRecord.{TableRecord}
 use Rattle.tables.specs.declared.queries.Range.{Range}
 use Rattle.tables.specs.declared.queries.Predicate.{Predicate}
 use Rattle.monitor.specs.declared.requests.Ask.{Ask}
@@ -25,6 +27,10 @@ only_key = record { key = range (pos 1) (pos 1); first = None; second = None }
 
 abbrev pub low_seconds : Predicate
 low_seconds = record { key = None; first = None; second = range (neg_ℤ (pos 300)) (neg_ℤ (pos 200)) }
+
+-- The record of a table, by the numbers of its two labels and the rule for second fields.
+abbrev pub ruled : ℤ → ℤ → SecondRule Rung → TableRecord Rung
+ruled t f s = record { table = own t; first = own f; second = s }
 
 -- What is asked of a session of a number.
 abbrev pub asked_of : ℕ → Ask Rung → Request Rung

@@ -3,7 +3,7 @@ ghost use Rattle.std.specs.Prelude.{◌≡◌};
 ghost use Rattle.rung_requests.specs.Example.{table_records, requests_with};
 
 use crate::predicates::{ALL, KEY_1, LOW_SECONDS};
-use crate::{delete, insert, open, rung, sealed, select, unseal, update};
+use crate::{delete, insert, open, rung, sealed, select, table_record, unseal, update};
 use labels::Rung;
 use monitor::Request;
 use tables::{SecondRule, TableRecord};
@@ -11,16 +11,8 @@ use tables::{SecondRule, TableRecord};
 pub fn records() -> [TableRecord<Rung>; 2]
     ensures { result ≡ table_records }
 {
-    let wells = TableRecord {
-        table: rung(2),
-        first: rung(1),
-        second: SecondRule::Own,
-    };
-    let notes = TableRecord {
-        table: rung(0),
-        first: rung(0),
-        second: SecondRule::Fixed(rung(5)),
-    };
+    let wells = table_record(2, 1, SecondRule::Own);
+    let notes = table_record(0, 0, SecondRule::Fixed(rung(5)));
     [wells, notes]
 }
 

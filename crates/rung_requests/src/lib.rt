@@ -5,7 +5,7 @@ ghost use Rattle.std.specs.Prelude.{◌≡◌};
 ghost use Rattle.labels.specs.Rung.{own};
 ghost use Rattle.sessions.specs.Steps.{sealed_value};
 ghost use Rattle.monitor.specs.declared.requests.Ask.TheVariants.{Open as OpenAsk, Unseal as UnsealAsk, Select as SelectAsk, Insert as InsertAsk, Delete as DeleteAsk, Update as UpdateAsk};
-ghost use Rattle.rung_requests.specs.Requests.{asked_of};
+ghost use Rattle.rung_requests.specs.Requests.{asked_of, ruled};
 
 pub mod example;
 pub mod predicates;
@@ -13,12 +13,23 @@ pub mod predicates;
 use labels::{Label, Rung};
 use monitor::{Ask, Request};
 use sessions::Sealed;
-use tables::Predicate;
+use tables::{Predicate, SecondRule, TableRecord};
 
 pub fn rung(number: i32) -> Rung
     ensures { result ≡ own number }
 {
     Rung::own_label(number)
+}
+
+// The record of a table, by the numbers of its label and of the label of its first fields, and the rule for second fields.
+pub fn table_record(table: i32, first: i32, second: SecondRule<Rung>) -> TableRecord<Rung>
+    ensures { result ≡ ruled table first second }
+{
+    TableRecord {
+        table: rung(table),
+        first: rung(first),
+        second,
+    }
 }
 
 // A value sealed under the rung of a number.

@@ -12,6 +12,11 @@ pub const KEY_1: Predicate = Predicate {
     ..ALL
 };
 
+pub const KEY_2: Predicate = Predicate {
+    key: Some(Range { low: 2, high: 2 }),
+    ..ALL
+};
+
 pub const LOW_SECONDS: Predicate = Predicate {
     second: Some(Range {
         low: -300,

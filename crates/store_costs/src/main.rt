@@ -140,10 +140,7 @@ fn run(rt: &HostRuntime) -> anyhow::Result<()> {
             work(&mut Packed::new(plan, &mut held), job, rows, mask)
         }
         Kind::Chained => {
-            let mut cells = [Cell {
-                row: Row::default(),
-                next: 0,
-            }; LIMIT];
+            let mut cells = [Cell::default(); LIMIT];
             work(&mut Chained::new(plan, &mut cells), job, rows, mask)
         }
     };

@@ -7,16 +7,11 @@ ghost use Rattle.two_histories.specs.Histories.{observer_label, table_records, s
 use guarantees::{Side, serve_both};
 use labels::Rung;
 use monitor::{Event, Request, ShortBuffer};
-use rung_requests::predicates::{ALL, KEY_1, LOW_SECONDS};
-use rung_requests::{delete, insert, open, rung, sealed, select, unseal, update};
+use rung_requests::predicates::{ALL, KEY_1, KEY_2, LOW_SECONDS};
+use rung_requests::{delete, insert, open, rung, sealed, select, table_record, unseal, update};
 use sessions::Session;
 use stores::Store;
 use tables::{Place, Predicate, Range, SecondRule, TableRecord};
-
-const KEY_2: Predicate = Predicate {
-    key: Some(Range { low: 2, high: 2 }),
-    ..ALL
-};
 
 const FIRST_4: Predicate = Predicate {
     first: Some(Range { low: 4, high: 4 }),
@@ -32,16 +27,8 @@ pub fn observer() -> Rung
 pub fn records() -> [TableRecord<Rung>; 2]
     ensures { result ≡ table_records }
 {
-    let wells = TableRecord {
-        table: rung(2),
-        first: rung(1),
-        second: SecondRule::Own,
-    };
-    let assays = TableRecord {
-        table: rung(5),
-        first: rung(4),
-        second: SecondRule::Fixed(rung(6)),
-    };
+    let wells = table_record(2, 1, SecondRule::Own);
+    let assays = table_record(5, 4, SecondRule::Fixed(rung(6)));
     [wells, assays]
 }
 

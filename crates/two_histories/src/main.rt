@@ -126,12 +126,8 @@ fn print_played(
 }
 
 fn run(rt: &(impl Print + AllocGlobal)) -> anyhow::Result<()> {
-    let no_cell = Cell {
-        row: Row::default(),
-        next: 0,
-    };
     let mut left_rows = [Row::default(); 5];
-    let mut right_cells = [no_cell; 5];
+    let mut right_cells = [Cell::default(); 5];
     let plan = Plan::of(&[3, 2])?;
     let mut left_store = Packed::new(plan, &mut left_rows);
     let mut right_store = Chained::new(plan, &mut right_cells);

@@ -3,8 +3,8 @@ use super::play::{Fault, Host};
 use labels::Rung;
 use packed::Packed;
 use rung_cases::cases::{
-    DELETING, INSERTING, KEYS_SPENT, OPENING_RAISING_LOWERING, SEALING_UNSEALING, SELECTING,
-    WITH_ONE_RECORD,
+    DELETING, INSERTING, KEYS_SPENT, OPENING_RAISING_LOWERING, REOPENING, SEALING_UNSEALING,
+    SELECTING, UPDATING, UPDATING_BY_EACH_RULE, WITH_ONE_RECORD,
 };
 use rung_cases::{
     Case, Expected, Outcome, Request, blank_place, place, play, records, standing_of,
@@ -86,6 +86,17 @@ fn inserting() -> Result<(), Fail> {
 #[test]
 fn deleting() -> Result<(), Fail> {
     plays(DELETING)
+}
+
+#[test]
+fn updating() -> Result<(), Fail> {
+    plays(UPDATING)?;
+    plays(UPDATING_BY_EACH_RULE)
+}
+
+#[test]
+fn reopening() -> Result<(), Fail> {
+    plays(REOPENING)
 }
 
 #[test]
