@@ -51,7 +51,7 @@ impl fmt::Display for Kind {
     }
 }
 
-// Refusals are counted by their numbers, at 0 what was not refused. Rows are those inserted, deleted or updated, and selected.
+// Refusals are counted by their numbers, at 0 what was not refused, since so they are printed. Rows are those inserted, deleted or updated, and selected.
 #[derive(Drop)]
 pub struct Counts {
     lists: u32,

@@ -11,14 +11,15 @@ use compare::{Difference, Run, first_difference};
 use counts::Counts;
 use draw::Draw;
 use labels::Rung;
-use monitor::{Answer, Event, Monitor, Request};
+use monitor::{Monitor, Request};
 use packed::Packed;
+use rung_requests::blanks::{NO_EVENT, no_place};
 use rung_requests::predicates::ALL;
 use rung_requests::{delete, example, insert, open, rung, sealed, table_record};
 use sessions::Session;
 use std::alloc::Global;
 use stores::{Plan, Row, Store};
-use tables::{Place, SecondRule, TableRecord};
+use tables::{SecondRule, TableRecord};
 
 // A row and a cell as they are lent, holding what a new store forgets.
 const ROW: Row = Row {
@@ -70,23 +71,13 @@ impl List<'_> {
             let _ = store.remove(0, 0);
         }
         let mut sessions = [Session::closed(), Session::closed(), Session::closed()];
-        let no_event = Event {
-            before: None,
-            answer: Ok(Answer::Done),
-            after: None,
-        };
-        let mut events = vec![in alloc; no_event; self.requests.len()]?;
-        let no_row = Place {
-            key: 0,
-            first: sealed(0, 0),
-            second: sealed(0, 0),
-        };
+        let mut events = vec![in alloc; NO_EVENT; self.requests.len()]?;
         let room = self
             .requests
             .iter()
             .map(|request| request.ask.room())
             .fold(0, usize::saturating_add);
-        let mut places = vec![in alloc; no_row; room]?;
+        let mut places = vec![in alloc; no_place(); room]?;
         let mut monitor = Monitor {
             sessions: &mut sessions,
             records: self.records,

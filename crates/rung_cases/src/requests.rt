@@ -10,7 +10,8 @@ use wording::Ranges;
 
 // What is asked of a session: opening from a label to a clearance, raising to a label, lowering the clearance to a label,
 // sealing a value under a label, unsealing what a label seals; and of a table of a number: selecting with so many places,
-// inserting two sealed values, deleting, updating to two sealed values. A sealed value is its label and its value.
+// inserting two sealed values, deleting, updating to two sealed values. A sealed value is its label and its value. It is not the
+// monitor's own type over numbers, since what that holds is sealed under a label.
 #[derive(Clone, Copy, PartialEq, Eq, Debug)]
 pub enum Ask {
     Open(u64, u64),

@@ -8,6 +8,7 @@ use Rattle.tables.specs.declared.records.SecondRule.{SecondRule}
 use Rattle.tables.specs.declared.records.TableRecord.{TableRecord}
 use Rattle.tables.specs.declared.queries.Range.{Range}
 use Rattle.tables.specs.declared.queries.Predicate.{Predicate}
+use Rattle.tables.specs.declared.queries.Place.{Place}
 use Rattle.monitor.specs.declared.requests.Ask.{Ask}
 use Rattle.monitor.specs.declared.requests.Request.{Request}
 
@@ -35,3 +36,7 @@ ruled t f s = record { table = own t; first = own f; second = s }
 -- What is asked of a session of a number.
 abbrev pub asked_of : ℕ → Ask Rung → Request Rung
 asked_of i a = record { session = i; ask = a }
+
+-- A place with no row in it has the key 0, and 0 under 0 in both fields.
+abbrev pub no_place : Place Rung
+no_place = record { key = 0; first = under 0 (pos 0); second = under 0 (pos 0) }

@@ -7,6 +7,7 @@ ghost use Rattle.sessions.specs.Steps.{sealed_value};
 ghost use Rattle.monitor.specs.declared.requests.Ask.TheVariants.{Open as OpenAsk, Unseal as UnsealAsk, Select as SelectAsk, Insert as InsertAsk, Delete as DeleteAsk, Update as UpdateAsk};
 ghost use Rattle.rung_requests.specs.Requests.{asked_of, ruled};
 
+pub mod blanks;
 pub mod example;
 pub mod predicates;
 

@@ -8,9 +8,10 @@ use anyhow::ensure;
 use chained::{Cell, Chained};
 use histories::{left_requests, observer, play_both, records, right_requests};
 use labels::{Label, Rung};
-use monitor::{Answer, Event, Request};
+use monitor::{Event, Request};
 use packed::Packed;
-use sessions::{Sealed, Session};
+use rung_requests::blanks::{NO_EVENT, no_place};
+use sessions::Session;
 use show::{show_extent, show_history, show_monitor};
 use stores::{Plan, Row, Store};
 use tables::Place;
@@ -33,22 +34,8 @@ observer sees nothing of it.
 What really happens, with the label of the session after each request, and with what the observer sees of the
 request: its answer, only that it is made, or nothing.";
 
-const NO_EVENT: Event<Rung> = Event {
-    before: None,
-    answer: Ok(Answer::Done),
-    after: None,
-};
-
-fn no_place() -> Place<Rung> {
-    let nothing = Sealed::new(Rung::lowest(), 0);
-    Place {
-        key: 0,
-        first: nothing,
-        second: nothing,
-    }
-}
-
-// All of a history, as the host sees it: nothing is blanked at the highest label.
+// All of a history, as the host sees it: nothing is blanked at the highest label. A history, its events and its places are three
+// slices throughout, as the monitor was lent them.
 fn print_history(
     rt: &(impl Print + AllocGlobal),
     side: &str,

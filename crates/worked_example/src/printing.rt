@@ -34,7 +34,8 @@ fn print_event<L: Label + fmt::Display>(
     }
 }
 
-// Each request with its number, the session's label after it and its answer, and with its rows on the lines below.
+// Each request with its number, the session's label after it and its answer, and with its rows on the lines below. Requests,
+// events and places are three slices, as the monitor was lent them.
 pub fn print_run<L: Label + fmt::Display>(
     rt: &impl Print,
     layout: Layout,

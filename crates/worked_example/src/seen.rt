@@ -31,7 +31,7 @@ fn push_event(
     Ok(())
 }
 
-// What is seen returned by requests 4 to 8.
+// What is seen returned by requests 4 to 8, as a text, since that of another run is compared with it.
 pub fn show_seen(
     heap: Global,
     observer: Rung,

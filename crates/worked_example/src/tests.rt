@@ -8,7 +8,8 @@ use rung_cases::cases::{
     SELECTING, UPDATED_AND_READ, UPDATING, UPDATING_BY_EACH_RULE, WITH_ONE_RECORD,
 };
 use rung_cases::{
-    Case, Mismatch, Outcome, Request, blank_place, numbers, place, play, records, standing_of,
+    Case, Expected, Mismatch, Outcome, Request, blank_place, numbers, place, play, records,
+    standing_of,
 };
 use rung_requests::predicates::ALL;
 use rung_requests::sealed;
@@ -142,11 +143,24 @@ fn later_places_are_untouched(rt: HostRuntime) -> Result<(), Fail> {
     let mut rows = [Row::default(); 2];
     let mut store = Packed::new(Plan::of(&[2])?, &mut rows);
     let _ = store.add(0, 4, -250);
-    let mut sessions = [Session::closed()];
-    sessions::open(&mut sessions, 0, Rung::new(0)?, Rung::new(7)?)?;
     let mut places = [blank_place(); 2];
-    let answer = tables::select(&mut sessions, &records(), &store, 0, 0, ALL, &mut places);
-    assert_eq!(rt; answer, Ok(1));
+    let mut monitor = Monitor {
+        sessions: &mut [Session::closed()],
+        records: &records(),
+        store: &mut store,
+    };
+    plays_each(
+        &mut monitor,
+        &mut places,
+        &[
+            (Request(0, Open(0, 7)), Expected::Done, Some((0, 7))),
+            (
+                Request(0, Select(0, ALL, 2)),
+                Expected::Rows(1),
+                Some((2, 7)),
+            ),
+        ],
+    )?;
     assert_eq!(rt;
         places,
         [place(1, sealed(1, 4), sealed(4, -250)), blank_place()]
