@@ -1,8 +1,8 @@
-// Serving requests by the calls of the sessions and of the tables themselves.
+// Serving requests by the calls of the sessions and of the tables themselves, as this program is there to do.
 use labels::{Rung, UnlawfulLabel};
-use monitor::{Answer, ShortBuffer};
+use monitor::{Answer, Ask, ShortBuffer};
 use packed::Packed;
-use rung_cases::{Ask, Request, sealed};
+use rung_cases::Request;
 use sessions::{Refusal, Session};
 use tables::{Place, Predicate, TableRecord};
 use thiserror::Error;
@@ -40,47 +40,38 @@ pub struct Host<'a> {
 
 impl Host<'_> {
     pub fn serve(&mut self, request: Request) -> Result<Answer<Rung>, Fault> {
-        let Request(session, ask) = request;
+        let monitor::Request { session, ask } = request.try_into()?;
         Ok(match ask {
             Ask::Open(label, clearance) => {
-                sessions::open(
-                    self.sessions,
-                    session,
-                    Rung::new(label)?,
-                    Rung::new(clearance)?,
-                )?;
+                sessions::open(self.sessions, session, label, clearance)?;
                 Answer::Done
             }
             Ask::Raise(to) => {
-                sessions::raise(self.sessions, session, Rung::new(to)?)?;
+                sessions::raise(self.sessions, session, to)?;
                 Answer::Done
             }
-            Ask::Lower(to) => {
-                sessions::lower_clearance(self.sessions, session, Rung::new(to)?)?;
+            Ask::LowerClearance(to) => {
+                sessions::lower_clearance(self.sessions, session, to)?;
                 Answer::Done
             }
             Ask::Seal(value, under) => Answer::Sealed(sessions::seal(
                 self.sessions,
                 session,
                 value,
-                Rung::new(under)?,
+                under,
             )?),
-            Ask::Unseal(label, value) => Answer::Value(sessions::unseal(
-                self.sessions,
-                session,
-                sealed(label, value)?,
-            )?),
+            Ask::Unseal(sealed) => Answer::Value(sessions::unseal(self.sessions, session, sealed)?),
             Ask::Select(table, predicate, room) => {
                 Answer::Filled(self.select(session, table, predicate, room)?)
             }
-            Ask::Insert(table, (a, first), (b, second)) => Answer::Key(tables::insert(
+            Ask::Insert(table, first, second) => Answer::Key(tables::insert(
                 self.sessions,
                 self.records,
                 &mut self.store,
                 session,
                 table,
-                sealed(a, first)?,
-                sealed(b, second)?,
+                first,
+                second,
             )?),
             Ask::Delete(table, predicate) => Answer::Changed(tables::delete(
                 self.sessions,
@@ -90,18 +81,16 @@ impl Host<'_> {
                 table,
                 predicate,
             )?),
-            Ask::Update(table, predicate, (a, first), (b, second)) => {
-                Answer::Changed(tables::update(
-                    self.sessions,
-                    self.records,
-                    &mut self.store,
-                    session,
-                    table,
-                    predicate,
-                    sealed(a, first)?,
-                    sealed(b, second)?,
-                )?)
-            }
+            Ask::Update(table, predicate, first, second) => Answer::Changed(tables::update(
+                self.sessions,
+                self.records,
+                &mut self.store,
+                session,
+                table,
+                predicate,
+                first,
+                second,
+            )?),
         })
     }
 
