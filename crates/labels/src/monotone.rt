@@ -4,10 +4,11 @@ ghost use Rattle.labels.specs.Consent.{RisesFrom, Monotone};
 
 use crate::bits::has_bit;
 
+// A number with every bit of n is not below n, so the others are not asked.
 fn rises_from(word: u64, n: u32) -> bool
     ensures { Decides result (RisesFrom word n) }
 {
-    (0..64).all(|m| n & m != n || !has_bit(word, n) || has_bit(word, m))
+    !has_bit(word, n) || (n..64).all(|m| n & m != n || has_bit(word, m))
 }
 
 pub fn is_monotone(word: u64) -> bool
