@@ -27,7 +27,7 @@ pub enum TableView {
 }
 
 // What is seen of a request that was served: nothing, merely that it was made, or its answer or refusal.
-#[derive(Clone, Copy, PartialEq, Eq, Debug)]
+#[derive(Clone, Copy, Debug)]
 pub enum EventView<L> {
     Unseen,
     Above,

@@ -10,7 +10,7 @@ use thiserror::Error;
 // What is asked of a session: opening from a label to a clearance, raising to a label, lowering the clearance to a label,
 // sealing a value under a label, unsealing; and, on the table of a number, selecting by a predicate into so many places,
 // inserting a first and a second value, deleting by a predicate, updating by a predicate to a first and a second value.
-#[derive(Clone, Copy, PartialEq, Eq, Debug)]
+#[derive(Clone, Copy, Debug)]
 pub enum Ask<L> {
     Open(L, L),
     Raise(L),
@@ -36,7 +36,7 @@ impl<L: Label> Ask<L> {
 }
 
 // The number of a session, and what is asked of it.
-#[derive(Clone, Copy, PartialEq, Eq, Debug)]
+#[derive(Clone, Copy, Debug)]
 pub struct Request<L> {
     pub session: usize,
     pub ask: Ask<L>,
@@ -44,7 +44,7 @@ pub struct Request<L> {
 
 // What a request is answered that is not turned down: that it is done, a sealed value, a value that was unsealed, how many
 // places a selection filled, the key of the row inserted, how many rows were deleted or updated.
-#[derive(Clone, Copy, PartialEq, Eq, Debug)]
+#[derive(Clone, Copy, Debug)]
 pub enum Answer<L> {
     Done,
     Sealed(Sealed<L>),
@@ -55,11 +55,12 @@ pub enum Answer<L> {
 }
 
 // What is kept of a request that was served: its answer or why it is turned down, and how the session of its number stood
-// before it and stands after it, none where that is closed or missing.
-#[derive(Clone, Copy, PartialEq, Eq, Debug)]
+// before it and stands after it, none where that is closed or missing. The answer comes first, since fields lie in their order
+// and the two others are small.
+#[derive(Clone, Copy, Debug)]
 pub struct Event<L> {
-    pub before: Option<Standing<L>>,
     pub answer: Result<Answer<L>, Refusal<L>>,
+    pub before: Option<Standing<L>>,
     pub after: Option<Standing<L>>,
 }
 

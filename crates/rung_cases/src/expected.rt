@@ -1,6 +1,7 @@
 // What a case expects, and playing cases.
 ghost use Rattle.std.specs.Prelude.{◌≡◌};
-ghost use Rattle.rung_cases.specs.Cases.{numbers_of, numbers_at, Plays};
+ghost use Rattle.rung_cases.specs.Cases.{numbers_of, numbers_at, Came, Plays};
+ghost use Rattle.rung_cases.specs.declared.requests.Request.{Request};
 
 use crate::requests::Request;
 use labels::{Rung, UnlawfulLabel};
@@ -97,14 +98,22 @@ pub struct Mismatch {
     pub came: Outcome,
 }
 
+// What requests are asked of. A trait and no closure, so that playing asks nothing of its callers.
+pub trait Server {
+    // How a request may leave it, and with what outcome. Where an impl says nothing of it, all may be.
+    ghost answers: { Self → Request → Came → Self → Type 0 } = { λ _ _ _ _. Unit {0} };
+
+    fn answer(&mut self, request: Request) -> Outcome
+        ensures { answers self.old request result self.new };
+}
+
 // Asks for what each case asks, one after another, up to the first that comes out otherwise.
-pub fn play<F: FnMut(Request) -> Outcome>(cases: &[Case], mut serve: F) -> Result<(), Mismatch>
-    requires { F.IsAlwaysCallable serve }
-    ensures { Plays F.step serve cases.now result }
+pub fn play<S: Server>(cases: &[Case], server: &mut S) -> Result<(), Mismatch>
+    ensures { Plays S.Server.answers server.old cases.now result }
 {
     for (number, (request, answer, standing)) in cases.iter().enumerate() {
         let expected = (*answer, *standing);
-        let came = serve(*request);
+        let came = server.answer(*request);
         if came != expected {
             return Err(Mismatch {
                 number,

@@ -9,6 +9,6 @@ mod setting;
 #[cfg(test)]
 mod tests;
 
-pub use expected::{Case, Expected, Mismatch, Outcome, numbers, play, standing_of};
+pub use expected::{Case, Expected, Mismatch, Outcome, Server, numbers, play, standing_of};
 pub use requests::{Ask, Request, sealed};
-pub use setting::{blank_place, place, records};
+pub use setting::{blank_place, place, place_numbers, records};

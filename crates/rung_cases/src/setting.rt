@@ -1,6 +1,6 @@
 // The records that the cases are played on, and rows as they are answered.
 ghost use Rattle.std.specs.Prelude.{◌≡◌};
-ghost use Rattle.rung_cases.specs.Setting.{case_records, blank};
+ghost use Rattle.rung_cases.specs.Setting.{case_records, blank, numbers_in};
 
 use labels::Rung;
 use rung_requests::{rung, sealed, table_record};
@@ -32,4 +32,15 @@ pub fn blank_place() -> Place<Rung>
     ensures { result ≡ blank }
 {
     place(99, sealed(0, -1), sealed(0, -1))
+}
+
+// A row as it is answered, in numbers: its key, and the label and the value of each field, as the host sees them.
+pub fn place_numbers(place: Place<Rung>) -> (u32, (u8, i32), (u8, i32))
+    ensures { result ≡ numbers_in place }
+{
+    (
+        place.key,
+        (place.first.label().number(), place.first.host_value()),
+        (place.second.label().number(), place.second.host_value()),
+    )
 }

@@ -6,13 +6,23 @@ ghost use Rattle.sessions.specs.Refusals.{number_of, label_of};
 ghost use Rattle.sessions.specs.Steps.{closed_session, sealed_value, outcome, opening, raising, lowering, sealing, unsealing, served, on_session};
 
 use labels::Label;
+use std::fmt;
 use thiserror::Error;
 
-// A value under a label. Anyone may make one, since requests carry them.
-#[derive(Clone, Copy, PartialEq, Eq, Debug)]
+// A value under a label. Anyone may make one, since requests carry them. None is compared by `==`, and `{:?}` leaves its value
+// out, since either would tell the value to whoever holds it.
+#[derive(Clone, Copy)]
 pub struct Sealed<L> {
     label: L,
     value: i32,
+}
+
+impl<L: fmt::Debug> fmt::Debug for Sealed<L> {
+    fn fmt<W: fmt::Write>(&self, f: &mut fmt::Formatter<W>) -> fmt::Result {
+        f.debug_struct("Sealed")
+            .field("label", &self.label)
+            .finish_non_exhaustive()
+    }
 }
 
 impl<L: Label> Sealed<L> {

@@ -21,7 +21,7 @@ pub struct Predicate {
 }
 
 // A row as it is answered.
-#[derive(Clone, Copy, PartialEq, Eq, Debug)]
+#[derive(Clone, Copy, Debug)]
 pub struct Place<L> {
     pub key: u32,
     pub first: Sealed<L>,

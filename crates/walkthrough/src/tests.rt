@@ -7,10 +7,10 @@ use rung_cases::cases::{
     SELECTING, UPDATING, UPDATING_BY_EACH_RULE, WITH_ONE_RECORD,
 };
 use rung_cases::{
-    Case, Expected, Outcome, Request, blank_place, place, play, records, standing_of,
+    Case, Expected, Outcome, Request, Server, blank_place, place_numbers, play, records,
+    standing_of,
 };
 use rung_requests::predicates::ALL;
-use rung_requests::sealed;
 use sessions::Session;
 use std::test::Fail;
 use stores::{Plan, Row, Store};
@@ -25,9 +25,14 @@ impl From<Fault> for Expected {
     }
 }
 
-fn outcome(host: &mut Host, request: Request) -> Outcome {
-    let answer = host.serve(request).into();
-    (answer, standing_of(host.sessions, request.0))
+// What a blank place holds, in numbers.
+const BLANK: (u32, (u8, i32), (u8, i32)) = (99, (0, -1), (0, -1));
+
+impl Server for Host<'_> {
+    fn answer(&mut self, request: Request) -> Outcome {
+        let answer = self.serve(request).into();
+        (answer, standing_of(self.sessions, request.0))
+    }
 }
 
 // On a new store, once so many keys of its first table are given and taken back.
@@ -50,7 +55,7 @@ fn plays_on<const N: usize>(
         let _ = host.store.add(0, 0, 0);
         let _ = host.store.remove(0, 0);
     }
-    play(cases, |request| outcome(&mut host, request))?;
+    play(cases, &mut host)?;
     Ok(())
 }
 
@@ -121,8 +126,8 @@ fn later_places_are_untouched(rt: HostRuntime) -> Result<(), Fail> {
     let answer = tables::select(&mut sessions, &records, &store, 0, 0, ALL, &mut places);
     assert_eq!(rt; answer, Ok(1));
     assert_eq!(rt;
-        places,
-        [place(1, sealed(1, 4), sealed(4, -250)), blank_place()]
+        places.map(|place| place_numbers(place)),
+        [(1, (1, 4), (4, -250)), BLANK]
     );
     Ok(())
 }
@@ -139,7 +144,7 @@ fn a_table_without_a_record_is_missing(rt: HostRuntime) -> Result<(), Fail> {
         store: Packed::new(Plan::of(&[1, 1])?, &mut rows),
         places: &mut places,
     };
-    play(WITH_ONE_RECORD, |request| outcome(&mut host, request))?;
-    assert_eq!(rt; places, [blank_place()]);
+    play(WITH_ONE_RECORD, &mut host)?;
+    assert_eq!(rt; places.map(|place| place_numbers(place)), [BLANK]);
     Ok(())
 }

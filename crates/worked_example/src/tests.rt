@@ -8,16 +8,18 @@ use rung_cases::cases::{
     SELECTING, UPDATED_AND_READ, UPDATING, UPDATING_BY_EACH_RULE, WITH_ONE_RECORD,
 };
 use rung_cases::{
-    Case, Expected, Mismatch, Outcome, Request, blank_place, numbers, place, play, records,
-    standing_of,
+    Case, Expected, Mismatch, Outcome, Request, Server, blank_place, numbers, place_numbers, play,
+    records, standing_of,
 };
 use rung_requests::predicates::ALL;
-use rung_requests::sealed;
 use sessions::Session;
 use std::process::Abort;
 use std::test::Fail;
 use stores::{Plan, Row, Store};
 use tables::Place;
+
+// What a blank place holds, in numbers.
+const BLANK: (u32, (u8, i32), (u8, i32)) = (99, (0, -1), (0, -1));
 
 fn outcome(
     monitor: &mut Monitor<Rung, Packed>,
@@ -31,12 +33,25 @@ fn outcome(
     (answer, standing_of(monitor.sessions, request.0))
 }
 
+// A monitor with the places that are lent for each request.
+#[derive(Drop)]
+struct Host<'a, 'b, 'c> {
+    monitor: &'a mut Monitor<'b, Rung, Packed<'c>>,
+    places: &'a mut [Place<Rung>],
+}
+
+impl Server for Host<'_, '_, '_> {
+    fn answer(&mut self, request: Request) -> Outcome {
+        outcome(self.monitor, self.places, request)
+    }
+}
+
 fn plays_each(
     monitor: &mut Monitor<Rung, Packed>,
     places: &mut [Place<Rung>],
     cases: &[Case],
 ) -> Result<(), Mismatch> {
-    play(cases, |request| outcome(monitor, places, request))
+    play(cases, &mut Host { monitor, places })
 }
 
 fn plays_on(store: &mut Packed, cases: &[Case]) -> Result<(), Fail> {
@@ -116,12 +131,12 @@ fn updated_rows_keep_their_keys(rt: HostRuntime) -> Result<(), Fail> {
     };
     plays_each(&mut monitor, &mut places, UPDATED_AND_READ)?;
     assert_eq!(rt;
-        places,
+        places.map(|place| place_numbers(place)),
         [
-            place(1, sealed(1, 4), sealed(4, -250)),
-            place(2, sealed(1, 5), sealed(5, -77)),
-            place(3, sealed(1, 5), sealed(5, -77)),
-            blank_place(),
+            (1, (1, 4), (4, -250)),
+            (2, (1, 5), (5, -77)),
+            (3, (1, 5), (5, -77)),
+            BLANK,
         ]
     );
     Ok(())
@@ -162,8 +177,8 @@ fn later_places_are_untouched(rt: HostRuntime) -> Result<(), Fail> {
         ],
     )?;
     assert_eq!(rt;
-        places,
-        [place(1, sealed(1, 4), sealed(4, -250)), blank_place()]
+        places.map(|place| place_numbers(place)),
+        [(1, (1, 4), (4, -250)), BLANK]
     );
     Ok(())
 }
@@ -179,7 +194,7 @@ fn a_table_without_a_record_is_missing(rt: HostRuntime) -> Result<(), Fail> {
         store: &mut store,
     };
     plays_each(&mut monitor, &mut places, WITH_ONE_RECORD)?;
-    assert_eq!(rt; places, [blank_place()]);
+    assert_eq!(rt; places.map(|place| place_numbers(place)), [BLANK]);
     Ok(())
 }
 
@@ -219,9 +234,11 @@ fn refuses(
     let answer = listing(&mut sessions, events, places)?;
     assert_eq!(rt; answer, (Err(expected), Some(1)));
     assert_eq!(rt; sessions, [Session::closed()]);
-    let blank = blank_place();
-    assert!(rt; events.iter().all(|event| *event == blank_event()));
-    assert!(rt; places.iter().all(|place| *place == blank));
+    for event in &*events {
+        assert_eq!(rt; (event.before, event.after), (None, None));
+        assert_eq!(rt; Expected::from(event.answer), Expected::Value(99));
+    }
+    assert!(rt; places.iter().all(|place| place_numbers(*place) == BLANK));
     Ok(())
 }
 
@@ -253,25 +270,25 @@ fn a_list_with_just_enough_room(rt: HostRuntime) -> Result<(), Fail> {
     let answer = listing(&mut sessions, &mut events, &mut places)?;
     assert_eq!(rt; answer, (Ok(()), Some(2)));
     assert_eq!(rt;
-        events.map(|event| event.answer),
+        events.map(|event| Expected::from(event.answer)),
         [
-            Ok(Answer::Done),
-            Ok(Answer::Filled(1)),
-            Ok(Answer::Key(2)),
-            Ok(Answer::Filled(2)),
+            Expected::Done,
+            Expected::Rows(1),
+            Expected::Key(2),
+            Expected::Rows(2),
         ]
     );
     assert_eq!(rt; events[0].before, None);
     assert_eq!(rt; events[1].before.map(|at| numbers(at)), Some((0, 7)));
     assert_eq!(rt; events[1].after.map(|at| numbers(at)), Some((2, 7)));
     assert_eq!(rt;
-        places,
+        places.map(|place| place_numbers(place)),
         [
-            place(1, sealed(1, 4), sealed(4, -250)),
-            blank_place(),
-            place(1, sealed(1, 4), sealed(4, -250)),
-            place(2, sealed(1, 2), sealed(2, 9)),
-            blank_place(),
+            (1, (1, 4), (4, -250)),
+            BLANK,
+            (1, (1, 4), (4, -250)),
+            (2, (1, 2), (2, 9)),
+            BLANK,
         ]
     );
     Ok(())

@@ -1,4 +1,4 @@
-use Rattle.std.proofs.Common.{rules, ◌≡◌, ℕ, ◌+◌, ◌<◌, length, List, take, slice_index_or, Bool, true, false, not, ◌&&◌, nat_eq, sym, ◌∙◌, add-one, of_calls}
+use Rattle.std.proofs.Common.{rules, ◌≡◌, ℕ, ◌+◌, ◌<◌, length, List, take, slice_index_or, Bool, true, false, not, ◌&&◌, nat_eq, sym, ◌∙◌, add-one}
 use Rattle.std.proofs.Math.Seq.{take-suc}
 use Rattle.std.proofs.lemmas.Fn.{FoldsTo-push}
 use Rattle.std.proofs.lemmas.Option.{slice_get-get_or}
@@ -25,17 +25,15 @@ one_more R p q u xs n d h below r = rw (add-one n, take-suc xs n d below) (Folds
 
 pub loop-number-preserved : goal.loop-number-preserved
 loop-number-preserved g c =
-    let e = equal c.serve-came.result _ (sym c.ne.ensures ∙ c.if-ne.false) in (
-      search of_calls,
-      one_more (AsExpected (goal.F-step g)) _ _ _ c.args.cases.now c.loop-number.number _ c.loop-number.invariant.1 c.loop-number-test.true (rw e at c.serve-came.ensures),
-    )
+    let e = equal c.answer-came.result _ (sym c.ne.ensures ∙ c.if-ne.false) in
+    one_more (AsExpected g.S.Server.answers) _ _ _ c.args.cases.now c.loop-number.number _ c.loop-number.invariant c.loop-number-test.true (rw e at c.answer-came.ensures)
 
 pub returns-then-ne : goal.returns-then-ne
 returns-then-ne g c = record {
   case = slice_get-get_or c.args.cases.now c.loop-number.number _ c.loop-number-test.true;
-  before = c.loop-number.serve;
-  after = c.serve-came.new.self;
-  as_expected = c.loop-number.invariant.1;
-  call = c.serve-came.ensures;
-  otherwise = unequal c.serve-came.result _ (sym c.ne.ensures ∙ c.if-ne.true);
+  before = c.loop-number.server;
+  after = c.answer-came.new.self;
+  as_expected = c.loop-number.invariant;
+  call = c.answer-came.ensures;
+  otherwise = unequal c.answer-came.result _ (sym c.ne.ensures ∙ c.if-ne.true);
 }
