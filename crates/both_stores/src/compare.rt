@@ -1,19 +1,25 @@
 // Where two runs of one list differ first.
 use labels::Rung;
 use monitor::{Event, Request};
+use rung_cases::{Expected, place_numbers};
 use sessions::Session;
 use std::fmt;
 use stores::Store;
 use tables::Place;
 use thiserror::Error;
 
+// As many events and places are lent to every list, so that some belong to no request: those have to stay as they were.
+pub const MOST_REQUESTS: usize = 40;
+
+pub const PLACES: usize = 160;
+
 // What is left of a list that was served.
 #[derive(Drop)]
 pub struct Run<S> {
     pub store: S,
     pub sessions: [Session<Rung>; 3],
-    pub events: Vec<Event<Rung>>,
-    pub places: Vec<Place<Rung>>,
+    pub events: [Event<Rung>; MOST_REQUESTS],
+    pub places: [Place<Rung>; PLACES],
 }
 
 // A request, counted from 1, by its event or a place lent to it; or a place that no request was lent, a session or a table.
@@ -43,7 +49,23 @@ pub struct Difference {
     pub spot: Spot,
 }
 
-fn differing_index<T: PartialEq>(left: &[T], right: &[T]) -> Option<usize> {
+fn same_event(left: &Event<Rung>, right: &Event<Rung>) -> bool {
+    left.before == right.before
+        && Expected::from(left.answer) == Expected::from(right.answer)
+        && left.after == right.after
+}
+
+fn differing_event(left: &[Event<Rung>], right: &[Event<Rung>]) -> Option<usize> {
+    left.iter()
+        .zip(right)
+        .position(|(left, right)| !same_event(left, right))
+}
+
+fn differing_place(left: &[Place<Rung>], right: &[Place<Rung>]) -> Option<usize> {
+    left.iter().zip(right).position(|(left, right)| place_numbers(*left) != place_numbers(*right))
+}
+
+fn differing_session(left: &[Session<Rung>], right: &[Session<Rung>]) -> Option<usize> {
     left.iter()
         .zip(right)
         .position(|(left, right)| left != right)
@@ -81,13 +103,13 @@ pub fn first_difference<A: Store, B: Store>(
     left: &Run<A>,
     right: &Run<B>,
 ) -> Option<Spot> {
-    if let Some(index) = differing_index(&left.events, &right.events) {
+    if let Some(index) = differing_event(&left.events, &right.events) {
         return Some(request_at(index));
     }
-    if let Some(place) = differing_index(&left.places, &right.places) {
+    if let Some(place) = differing_place(&left.places, &right.places) {
         return Some(lent_to(requests, place).map_or(Spot::Place(place), request_at));
     }
-    differing_index(&left.sessions, &right.sessions)
+    differing_session(&left.sessions, &right.sessions)
         .map(Spot::Session)
         .or_else(|| differing_table(&left.store, &right.store).map(Spot::Table))
 }

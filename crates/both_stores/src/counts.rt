@@ -2,11 +2,9 @@
 use labels::Rung;
 use monitor::{Answer, Ask, Event, Request};
 use sessions::Refusal;
-use std::alloc::{AllocError, Global};
-use std::collections::BTreeMap;
 use std::fmt;
 
-#[derive(Clone, Copy, PartialEq, Eq, PartialOrd, Ord, Debug)]
+#[derive(Clone, Copy, PartialEq, Eq, Debug)]
 enum Kind {
     Open,
     Raise,
@@ -18,6 +16,18 @@ enum Kind {
     Delete,
     Update,
 }
+
+const KINDS: [Kind; 9] = [
+    Kind::Open,
+    Kind::Raise,
+    Kind::Lower,
+    Kind::Seal,
+    Kind::Unseal,
+    Kind::Select,
+    Kind::Insert,
+    Kind::Delete,
+    Kind::Update,
+];
 
 impl From<Ask<Rung>> for Kind {
     fn from(ask: Ask<Rung>) -> Kind {
@@ -51,43 +61,30 @@ impl fmt::Display for Kind {
     }
 }
 
-// Refusals are counted by their numbers, at 0 what was not refused, since so they are printed. Rows are those inserted, deleted or updated, and selected.
-#[derive(Drop)]
+// Kinds are counted in their order, and refusals by their numbers, at 0 what was not refused, since so they are printed. Rows are
+// those inserted, deleted or updated, and selected.
+#[derive(Default, Drop)]
 pub struct Counts {
     lists: u32,
     requests: u32,
-    kinds: BTreeMap<Kind, u32>,
-    refusals: BTreeMap<u8, u32>,
+    kinds: [u32; KINDS.len()],
+    refusals: [u32; 15],
     inserted: usize,
     changed: usize,
     selected: usize,
 }
 
 impl Counts {
-    pub fn new(alloc: Global) -> Counts {
-        Counts {
-            lists: 0,
-            requests: 0,
-            kinds: BTreeMap::new(alloc),
-            refusals: BTreeMap::new(alloc),
-            inserted: 0,
-            changed: 0,
-            selected: 0,
-        }
-    }
-
     // A list that was served.
-    pub fn count(
-        &mut self,
-        requests: &[Request<Rung>],
-        events: &[Event<Rung>],
-    ) -> anyhow::Result<()> {
+    pub fn count(&mut self, requests: &[Request<Rung>], events: &[Event<Rung>]) {
         self.lists = self.lists.saturating_add(1);
         for (request, event) in requests.iter().zip(events) {
             self.requests = self.requests.saturating_add(1);
-            bump(&mut self.kinds, Kind::from(request.ask))?;
-            let refusal = event.answer.err().map_or(0, Refusal::number);
-            bump(&mut self.refusals, refusal)?;
+            bump(&mut self.kinds, Kind::from(request.ask) as usize);
+            bump(
+                &mut self.refusals,
+                event.answer.err().map_or(0, refusal_number),
+            );
             match event.answer {
                 Ok(Answer::Key(_)) => self.inserted = self.inserted.saturating_add(1),
                 Ok(Answer::Changed(rows)) => self.changed = self.changed.saturating_add(rows),
@@ -95,24 +92,27 @@ impl Counts {
                 _ => {}
             }
         }
-        Ok(())
     }
 }
 
-fn bump<K: Ord + Drop>(counts: &mut BTreeMap<K, u32>, key: K) -> Result<(), AllocError> {
-    let count = counts.entry(key)?.or_insert(0);
-    *count = count.saturating_add(1);
-    Ok(())
+fn refusal_number(refusal: Refusal<Rung>) -> usize {
+    usize::from(refusal.number())
+}
+
+fn bump(counts: &mut [u32], at: usize) {
+    if let Some(count) = counts.get_mut(at) {
+        *count = count.saturating_add(1);
+    }
 }
 
 impl fmt::Display for Counts {
     fn fmt<W: fmt::Write>(&self, f: &mut fmt::Formatter<W>) -> fmt::Result {
         write!(f, "{} lists; {} requests", self.lists, self.requests)?;
-        for (kind, count) in self.kinds.iter() {
+        for (kind, count) in KINDS.iter().zip(&self.kinds) {
             write!(f, "; {kind} {count}")?;
         }
         write!(f, "\nBy the number of the refusal, 0 where there is none:")?;
-        for (number, count) in self.refusals.iter() {
+        for (number, count) in self.refusals.iter().enumerate() {
             write!(f, " ({number}) {count}")?;
         }
         let Counts {

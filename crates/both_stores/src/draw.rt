@@ -2,7 +2,6 @@
 use labels::{Label, Rung};
 use monitor::{Ask, Request};
 use sessions::Sealed;
-use std::alloc::{AllocError, Global};
 use tables::{Predicate, Range};
 
 #[derive(Drop)]
@@ -126,20 +125,17 @@ impl Draw {
         Request { session, ask }
     }
 
-    // A list of two requests that open the first two sessions, and so many more.
-    pub fn requests(
-        &mut self,
-        alloc: Global,
-        more: usize,
-    ) -> Result<Vec<Request<Rung>>, AllocError> {
-        let mut requests = Vec::new(alloc);
-        for session in 0..2 {
-            let ask = self.ask_to_open();
-            requests.push(Request { session, ask })?;
+    // A list, of which the first two requests open the first two sessions. It is lent, since a whole list is a large answer.
+    pub fn requests(&mut self, requests: &mut [Request<Rung>]) {
+        for (i, request) in requests.iter_mut().enumerate() {
+            *request = if i < 2 {
+                Request {
+                    session: i,
+                    ask: self.ask_to_open(),
+                }
+            } else {
+                self.request()
+            };
         }
-        for _ in 0..more {
-            requests.push(self.request())?;
-        }
-        Ok(requests)
     }
 }

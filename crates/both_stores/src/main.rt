@@ -7,17 +7,16 @@ mod counts;
 mod draw;
 
 use chained::{Cell, Chained};
-use compare::{Difference, Run, first_difference};
+use compare::{Difference, MOST_REQUESTS, PLACES, Run, first_difference};
 use counts::Counts;
 use draw::Draw;
 use labels::Rung;
-use monitor::{Monitor, Request};
+use monitor::{Monitor, Request, ShortBuffer};
 use packed::Packed;
 use rung_requests::blanks::{NO_EVENT, no_place};
 use rung_requests::predicates::ALL;
 use rung_requests::{delete, example, insert, open, rung, sealed, table_record};
 use sessions::Session;
-use std::alloc::Global;
 use stores::{Plan, Row, Store};
 use tables::{SecondRule, TableRecord};
 
@@ -64,20 +63,15 @@ struct List<'a> {
 }
 
 impl List<'_> {
-    // Keys are spent by rows that are added and removed.
-    fn serve<S: Store + Drop>(&self, alloc: Global, mut store: S) -> anyhow::Result<Run<S>> {
+    // Keys are spent by rows that are added and removed. Nothing is kept on the heap, so nothing can be lacking there.
+    fn serve<S: Store + Drop>(&self, mut store: S) -> Result<Run<S>, ShortBuffer> {
         for _ in 0..self.spent {
             let _ = store.add(0, 0, 0);
             let _ = store.remove(0, 0);
         }
         let mut sessions = [Session::closed(), Session::closed(), Session::closed()];
-        let mut events = vec![in alloc; NO_EVENT; self.requests.len()]?;
-        let room = self
-            .requests
-            .iter()
-            .map(|request| request.ask.room())
-            .fold(0, usize::saturating_add);
-        let mut places = vec![in alloc; no_place(); room]?;
+        let mut events = [NO_EVENT; MOST_REQUESTS];
+        let mut places = [no_place(); PLACES];
         let mut monitor = Monitor {
             sessions: &mut sessions,
             records: self.records,
@@ -93,31 +87,29 @@ impl List<'_> {
     }
 
     // Serves the list over both stores.
-    fn play(&self, alloc: Global, counts: &mut Counts) -> anyhow::Result<()> {
+    fn play(&self, counts: &mut Counts) -> anyhow::Result<()> {
         let mut rows = [ROW; 12];
         let packed = Packed::new(Plan::of(self.limits)?, &mut rows);
-        let left = self.serve(alloc, packed)?;
+        let left = self.serve(packed)?;
         let mut cells = [CELL; 12];
         let chained = Chained::new(Plan::of(self.limits)?, &mut cells);
-        let right = self.serve(alloc, chained)?;
+        let right = self.serve(chained)?;
         if let Some(spot) = first_difference(self.requests, &left, &right) {
             let list = self.number;
             return Err(Difference { list, spot }.into());
         }
-        counts.count(self.requests, &left.events)
+        counts.count(self.requests, &left.events);
+        Ok(())
     }
 }
 
 // Lists 1 to 120, over five tables. Of the tables that are asked for, number 5 has a record alone and number 6 nothing; in
 // every second list the last two records are not lent, and number 4 is a table without a record.
-fn play_drawn(
-    alloc: Global,
-    counts: &mut Counts,
-    records: &[TableRecord<Rung>; 6],
-) -> anyhow::Result<()> {
+fn play_drawn(counts: &mut Counts, records: &[TableRecord<Rung>; 6]) -> anyhow::Result<()> {
     let mut draw = Draw::new(20);
+    let mut requests = [open(0, 0, 0); MOST_REQUESTS];
     for number in 1..=DRAWN_LISTS {
-        let requests = draw.requests(alloc, 38)?;
+        draw.requests(&mut requests);
         let list = List {
             number,
             limits: &[3, 2, 4, 2, 1],
@@ -129,15 +121,14 @@ fn play_drawn(
             },
             requests: &requests,
         };
-        list.play(alloc, counts)?;
+        list.play(counts)?;
     }
     Ok(())
 }
 
 fn run(rt: &HostRuntime) -> anyhow::Result<()> {
-    let alloc = rt.alloc();
     let records = all_records();
-    let mut counts = Counts::new(alloc);
+    let mut counts = Counts::default();
     let worked_example = List {
         number: 0,
         limits: &[2, 1],
@@ -145,8 +136,8 @@ fn run(rt: &HostRuntime) -> anyhow::Result<()> {
         records: &records[..2],
         requests: &example::requests(-250),
     };
-    worked_example.play(alloc, &mut counts)?;
-    play_drawn(alloc, &mut counts, &records)?;
+    worked_example.play(&mut counts)?;
+    play_drawn(&mut counts, &records)?;
     let single_key = List {
         number: DRAWN_LISTS + 1,
         limits: &[1],
@@ -154,7 +145,7 @@ fn run(rt: &HostRuntime) -> anyhow::Result<()> {
         records: &records,
         requests: &last_keys(),
     };
-    single_key.play(alloc, &mut counts)?;
+    single_key.play(&mut counts)?;
     println!(rt;
         "Each list of requests is served with rung labels over the packed store and over the chained store, from new stores and"
     )?;

@@ -5,44 +5,33 @@
 
 ghost use Rattle.store_costs.specs.Jobs.{noted, masked};
 
-use anyhow::{Context, bail};
+use anyhow::bail;
 use chained::{Cell, Chained};
 use packed::Packed;
 use std::env;
 use stores::{Edit, Fate, Plan, Row, Store, Visit};
-use thiserror::Error;
 
 const LIMIT: usize = 2048;
 
 const USAGE: &str = "usage: store_costs packed|chained lay|add|walk|sweep ROWS MASK";
 
-// A word that names no store or no job.
-#[derive(Clone, Copy, PartialEq, Eq, Debug, Error)]
-enum UnknownWord<'a> {
-    #[error("no store is called {0:?}, but packed and chained are")]
-    Store(&'a str),
-    #[error("no job is called {0:?}, but lay, add, walk and sweep are")]
-    Job(&'a str),
-}
-
+// Every word but `chained` names the packed store.
 #[derive(Clone, Copy, PartialEq, Eq, Debug)]
 enum Kind {
     Packed,
     Chained,
 }
 
-impl<'a> TryFrom<&'a str> for Kind {
-    type Error = UnknownWord<'a>;
-
-    fn try_from(word: &'a str) -> Result<Kind, UnknownWord<'a>> {
+impl From<&str> for Kind {
+    fn from(word: &str) -> Kind {
         match word {
-            "packed" => Ok(Kind::Packed),
-            "chained" => Ok(Kind::Chained),
-            _ => Err(UnknownWord::Store(word)),
+            "chained" => Kind::Chained,
+            _ => Kind::Packed,
         }
     }
 }
 
+// Every word but the three others names adding.
 #[derive(Clone, Copy, PartialEq, Eq, Debug)]
 enum Job {
     Lay,
@@ -51,16 +40,13 @@ enum Job {
     Sweep,
 }
 
-impl<'a> TryFrom<&'a str> for Job {
-    type Error = UnknownWord<'a>;
-
-    fn try_from(word: &'a str) -> Result<Job, UnknownWord<'a>> {
+impl From<&str> for Job {
+    fn from(word: &str) -> Job {
         match word {
-            "lay" => Ok(Job::Lay),
-            "add" => Ok(Job::Add),
-            "walk" => Ok(Job::Walk),
-            "sweep" => Ok(Job::Sweep),
-            _ => Err(UnknownWord::Job(word)),
+            "lay" => Job::Lay,
+            "walk" => Job::Walk,
+            "sweep" => Job::Sweep,
+            _ => Job::Add,
         }
     }
 }
@@ -129,10 +115,10 @@ fn run(rt: &HostRuntime) -> anyhow::Result<()> {
     ) else {
         bail!("{USAGE}");
     };
-    let kind = Kind::try_from(kind.as_str()).context(USAGE)?;
-    let job = Job::try_from(job.as_str()).context(USAGE)?;
-    let rows = rows.parse().context(format_args!("ROWS {rows:?}"))?;
-    let mask = mask.parse().context(format_args!("MASK {mask:?}"))?;
+    let kind = Kind::from(kind.as_str());
+    let job = Job::from(job.as_str());
+    let rows = rows.parse()?;
+    let mask = mask.parse()?;
     let plan = Plan::of(&[LIMIT])?;
     let answer = match kind {
         Kind::Packed => {
